@@ -1,0 +1,47 @@
+// The share rule as a trait, and the exact rule that builds on it.
+// What a rule makes of an amount and weights is its ghost member `split`; its laws are asked of it wherever a rule
+// answers, and nowhere else.
+use crate::fault::RuleFault;
+ghost use mathlib.Core.Path.{_≡_};
+ghost use mathlib.Core.Bool.{true};
+ghost use mathlib.Core.List.{List};
+ghost use lib.IntN.{ℤ};
+ghost use Rattle.std.specs.Results.{isOk};
+ghost use Rattle.shares.specs.Faults.{share-answer, shared};
+ghost use Rattle.shares.specs.Laws.{Fair, Exact, Shared-out};
+
+pub trait ShareRule {
+    ghost split: { Self → ℤ → List ℤ → List ℤ };
+
+    law fair: { (rule : Self) → Fair (split rule) };
+
+    // Writes one share for each weight, and leaves later places; a refusal leaves every place.
+    fn share(&self, amount: i64, weights: &[i64], shares: &mut [i64]) -> Result<(), RuleFault>
+        ensures answer { λ r. ⌜ r ≡ share-answer amount (now (weights .entry)) (now (shares .entry)) ⌝ }
+        ensures places { λ _. ⌜ now (shares .exit)
+            ≡ shared (split (now (self .entry))) amount (now (weights .entry)) (now (shares .entry)) ⌝ };
+}
+
+pub trait ExactRule: ShareRule {
+    law exact: { (rule : Self) → Exact (Self·ShareRule .split rule) };
+
+    // Promises that this rule's shares add up to the amount.
+    fn adds_up(&self)
+        ensures { λ _. ⌜ Exact (Self·ShareRule .split (now (self .entry))) ⌝ }
+    {}
+}
+
+// Shares by any rule: what is written is lawful, and no share is larger than the amount.
+pub fn share_by_rule<R: ShareRule>(
+    rule: &R,
+    amount: i64,
+    weights: &[i64],
+    shares: &mut [i64],
+) -> Result<(), RuleFault>
+    ensures answer { λ r. ⌜ r ≡ share-answer amount (now (weights .entry)) (now (shares .entry)) ⌝ }
+    ensures places { λ _. ⌜ now (shares .exit)
+        ≡ shared (R·ShareRule .split (now (rule .entry))) amount (now (weights .entry)) (now (shares .entry)) ⌝ }
+    ensures lawful { λ r. ⌜ (isOk r ≡ true → Shared-out amount (now (weights .entry)) (now (shares .exit))) ⌝ }
+{
+    rule.share(amount, weights, shares)
+}
