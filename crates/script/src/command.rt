@@ -1,6 +1,5 @@
 // What a line of a script asks for. Every number is taken as it was written: whether the rules
 // turn it down is not decided here.
-use text::Words;
 
 #[derive(Clone, Copy)]
 pub enum RuleName {
@@ -25,15 +24,21 @@ pub struct Key {
     pub interval: u32,
 }
 
-// The month that an exercise opens, and the places of its two journals.
+// The places of a month's two journals.
+#[derive(Clone, Copy)]
+pub struct Places {
+    pub money: u32,
+    pub demand: u32,
+}
+
+// The month that an exercise opens.
 #[derive(Clone, Copy)]
 pub struct Opening {
     pub year: u32,
     pub month: u32,
     pub participants: u32,
     pub rule: RuleName,
-    pub money_lines: u32,
-    pub demand_lines: u32,
+    pub places: Places,
 }
 
 // A call on the open month. `places` is the length of the shares buffer that is handed in.
@@ -71,7 +76,7 @@ pub enum Call {
     },
 }
 
-// A question that changes nothing.
+// A question, which changes nothing.
 #[derive(Clone, Copy)]
 pub enum Question {
     Subtotal {
@@ -106,18 +111,17 @@ pub enum Question {
     Balance,
 }
 
-// A rule put to work on an amount and weights alone; each word of `weights` is a number.
+// A rule put to work on an amount by weights, which are the words of the line from the fourth on.
 #[derive(Clone, Copy)]
-pub struct Sharing<'a> {
+pub struct Sharing {
     pub rule: RuleName,
     pub amount: i64,
-    pub weights: Words<'a>,
 }
 
 #[derive(Clone, Copy)]
-pub enum Command<'a> {
+pub enum Command {
     Open(Opening),
     Call(Call),
     Ask(Question),
-    Share(Sharing<'a>),
+    Share(Sharing),
 }

@@ -1,11 +1,19 @@
-// One line of a script, understood as a whole: its command, nothing where it has no word, or why
-// it is none.
+// The grammar of a script: what each command wants after its name, and the command of a whole line.
+ghost use mathlib.Core.Path.{_≡_};
+ghost use Rattle.std.specs.Results.{okPart};
+ghost use Rattle.script.specs.Grammar.{places, opening, post, meter, adjust, allocate, strike, allot, withdraw};
+ghost use Rattle.script.specs.Grammar.{subtotal, interval, code, group, parent, settlement, month, balance, share};
+ghost use Rattle.script.specs.Grammar.{arguments-of, understood};
+ghost use Rattle.script.specs.Readings.{ahead, after-three};
+ghost use Rattle.text.specs.Taking.{to-come};
 use crate::arguments::Arguments;
 use crate::command::Call;
 use crate::command::Command;
 use crate::command::Opening;
+use crate::command::Places;
 use crate::command::Question;
 use crate::command::Sharing;
+use crate::verb::Verb;
 use crate::wrong::Argument;
 use crate::wrong::Expected;
 use crate::wrong::Found;
@@ -17,197 +25,262 @@ const JOURNAL_PLACES: u32 = 1_000_000;
 
 const SHARES_PLACES: u32 = 32;
 
-fn opening<'a>(arguments: &mut Arguments<'a>) -> Result<Opening, Wrong<'a>> {
-    let year = arguments.unsigned(Argument::Year)?;
-    let month = arguments.unsigned(Argument::Month)?;
-    let participants = arguments.unsigned(Argument::Participants)?;
-    let rule = arguments.rule()?;
-    if arguments.at_end() {
-        return Ok(Opening {
+impl<'a> Arguments<'a> {
+    fn places(&mut self) -> Option<Places>
+        ensures { λ r. ⌜ r ≡ places (ahead (now (self .entry))) ⌝ }
+    {
+        if self.is_at_end() {
+            return Some(Places {
+                money: JOURNAL_PLACES,
+                demand: JOURNAL_PLACES,
+            });
+        }
+        let money = self.unsigned(Argument::MoneyLines)?;
+        let demand = self.unsigned(Argument::DemandLines)?;
+        self.end()?;
+        Some(Places { money, demand })
+    }
+
+    fn opening(&mut self) -> Option<Opening>
+        ensures { λ r. ⌜ r ≡ opening (ahead (now (self .entry))) ⌝ }
+    {
+        let year = self.unsigned(Argument::Year)?;
+        let month = self.unsigned(Argument::Month)?;
+        let participants = self.unsigned(Argument::Participants)?;
+        let rule = self.rule()?;
+        let places = self.places()?;
+        Some(Opening {
             year,
             month,
             participants,
             rule,
-            money_lines: JOURNAL_PLACES,
-            demand_lines: JOURNAL_PLACES,
-        });
+            places,
+        })
     }
-    let money_lines = arguments.unsigned(Argument::MoneyLines)?;
-    let demand_lines = arguments.unsigned(Argument::DemandLines)?;
-    Ok(Opening {
-        year,
-        month,
-        participants,
-        rule,
-        money_lines,
-        demand_lines,
-    })
-}
 
-fn post<'a>(arguments: &mut Arguments<'a>) -> Result<Call, Wrong<'a>> {
-    let key = arguments.key()?;
-    let cents = arguments.signed(Argument::Cents)?;
-    Ok(Call::Post { key, cents })
-}
-
-fn meter<'a>(arguments: &mut Arguments<'a>) -> Result<Call, Wrong<'a>> {
-    let participant = arguments.unsigned(Argument::Participant)?;
-    let page = arguments.unsigned(Argument::Page)?;
-    let interval = arguments.unsigned(Argument::Interval)?;
-    let kwh = arguments.signed(Argument::Kwh)?;
-    Ok(Call::Meter {
-        participant,
-        page,
-        interval,
-        kwh,
-    })
-}
-
-fn adjust<'a>(arguments: &mut Arguments<'a>) -> Result<Call, Wrong<'a>> {
-    let key = arguments.key()?;
-    let cents = arguments.signed(Argument::Cents)?;
-    Ok(Call::Adjust { key, cents })
-}
-
-fn allocate<'a>(arguments: &mut Arguments<'a>) -> Result<Call, Wrong<'a>> {
-    let code = arguments.unsigned(Argument::Code)?;
-    let page = arguments.unsigned(Argument::Page)?;
-    let interval = arguments.unsigned(Argument::Interval)?;
-    let places = arguments.unsigned_or(Argument::Places, SHARES_PLACES)?;
-    Ok(Call::Allocate {
-        code,
-        page,
-        interval,
-        places,
-    })
-}
-
-fn allot<'a>(arguments: &mut Arguments<'a>) -> Result<Call, Wrong<'a>> {
-    let page = arguments.unsigned(Argument::Page)?;
-    let places = arguments.unsigned_or(Argument::Places, SHARES_PLACES)?;
-    Ok(Call::Allot { page, places })
-}
-
-fn subtotal<'a>(arguments: &mut Arguments<'a>) -> Result<Question, Wrong<'a>> {
-    let path = arguments.path()?;
-    let key = arguments.key()?;
-    Ok(Question::Subtotal { path, key })
-}
-
-fn code<'a>(arguments: &mut Arguments<'a>) -> Result<Question, Wrong<'a>> {
-    let code = arguments.unsigned(Argument::Code)?;
-    let participant = arguments.unsigned(Argument::Participant)?;
-    let page = arguments.unsigned(Argument::Page)?;
-    Ok(Question::Code {
-        code,
-        participant,
-        page,
-    })
-}
-
-fn group<'a>(arguments: &mut Arguments<'a>) -> Result<Question, Wrong<'a>> {
-    let group = arguments.unsigned(Argument::Group)?;
-    let participant = arguments.unsigned(Argument::Participant)?;
-    let page = arguments.unsigned(Argument::Page)?;
-    Ok(Question::Group {
-        group,
-        participant,
-        page,
-    })
-}
-
-fn parent<'a>(arguments: &mut Arguments<'a>) -> Result<Question, Wrong<'a>> {
-    let parent = arguments.unsigned(Argument::Parent)?;
-    let participant = arguments.unsigned(Argument::Participant)?;
-    let page = arguments.unsigned(Argument::Page)?;
-    Ok(Question::Parent {
-        parent,
-        participant,
-        page,
-    })
-}
-
-fn settlement<'a>(arguments: &mut Arguments<'a>) -> Result<Question, Wrong<'a>> {
-    let participant = arguments.unsigned(Argument::Participant)?;
-    let page = arguments.unsigned(Argument::Page)?;
-    Ok(Question::Settlement { participant, page })
-}
-
-fn sharing<'a>(arguments: &mut Arguments<'a>) -> Result<Sharing<'a>, Wrong<'a>> {
-    let rule = arguments.rule()?;
-    let amount = arguments.signed(Argument::Amount)?;
-    let weights = arguments.rest();
-    let _ = arguments.signed(Argument::Weight)?;
-    arguments.all_signed(Argument::Weight)?;
-    Ok(Sharing {
-        rule,
-        amount,
-        weights,
-    })
-}
-
-fn call<'a>(name: &[u8], arguments: &mut Arguments<'a>) -> Result<Option<Call>, Wrong<'a>> {
-    let call = match name {
-        b"post" => post(arguments)?,
-        b"meter" => meter(arguments)?,
-        b"adjust" => adjust(arguments)?,
-        b"allocate" => allocate(arguments)?,
-        b"strike" => Call::Strike {
-            page: arguments.unsigned(Argument::Page)?,
-        },
-        b"allot" => allot(arguments)?,
-        b"withdraw" => Call::Withdraw {
-            page: arguments.unsigned(Argument::Page)?,
-        },
-        _ => return Ok(None),
-    };
-    Ok(Some(call))
-}
-
-fn question<'a>(name: &[u8], arguments: &mut Arguments<'a>) -> Result<Option<Question>, Wrong<'a>> {
-    let question = match name {
-        b"subtotal" => subtotal(arguments)?,
-        b"interval" => Question::Interval {
-            key: arguments.key()?,
-        },
-        b"code" => code(arguments)?,
-        b"group" => group(arguments)?,
-        b"parent" => parent(arguments)?,
-        b"settlement" => settlement(arguments)?,
-        b"month" => Question::Month {
-            participant: arguments.unsigned(Argument::Participant)?,
-        },
-        b"balance" => Question::Balance,
-        _ => return Ok(None),
-    };
-    Ok(Some(question))
-}
-
-fn command<'a>(name: &'a [u8], arguments: &mut Arguments<'a>) -> Result<Command<'a>, Wrong<'a>> {
-    if let Some(call) = call(name, arguments)? {
-        return Ok(Command::Call(call));
+    fn post(&mut self) -> Option<Call>
+        ensures { λ r. ⌜ r ≡ post (ahead (now (self .entry))) ⌝ }
+    {
+        let key = self.key()?;
+        let cents = self.signed(Argument::Cents)?;
+        self.end()?;
+        Some(Call::Post { key, cents })
     }
-    if let Some(question) = question(name, arguments)? {
-        return Ok(Command::Ask(question));
+
+    fn meter(&mut self) -> Option<Call>
+        ensures { λ r. ⌜ r ≡ meter (ahead (now (self .entry))) ⌝ }
+    {
+        let participant = self.unsigned(Argument::Participant)?;
+        let page = self.unsigned(Argument::Page)?;
+        let interval = self.unsigned(Argument::Interval)?;
+        let kwh = self.signed(Argument::Kwh)?;
+        self.end()?;
+        Some(Call::Meter {
+            participant,
+            page,
+            interval,
+            kwh,
+        })
     }
-    match name {
-        b"open" => Ok(Command::Open(opening(arguments)?)),
-        b"share" => Ok(Command::Share(sharing(arguments)?)),
-        _ => Err(Wrong {
-            found: Found::Word(name),
-            expected: Expected::Command,
-        }),
+
+    fn adjust(&mut self) -> Option<Call>
+        ensures { λ r. ⌜ r ≡ adjust (ahead (now (self .entry))) ⌝ }
+    {
+        let key = self.key()?;
+        let cents = self.signed(Argument::Cents)?;
+        self.end()?;
+        Some(Call::Adjust { key, cents })
+    }
+
+    fn allocate(&mut self) -> Option<Call>
+        ensures { λ r. ⌜ r ≡ allocate (ahead (now (self .entry))) ⌝ }
+    {
+        let code = self.unsigned(Argument::Code)?;
+        let page = self.unsigned(Argument::Page)?;
+        let interval = self.unsigned(Argument::Interval)?;
+        let places = self.unsigned_or(Argument::Places, SHARES_PLACES)?;
+        self.end()?;
+        Some(Call::Allocate {
+            code,
+            page,
+            interval,
+            places,
+        })
+    }
+
+    fn strike(&mut self) -> Option<Call>
+        ensures { λ r. ⌜ r ≡ strike (ahead (now (self .entry))) ⌝ }
+    {
+        let page = self.unsigned(Argument::Page)?;
+        self.end()?;
+        Some(Call::Strike { page })
+    }
+
+    fn allot(&mut self) -> Option<Call>
+        ensures { λ r. ⌜ r ≡ allot (ahead (now (self .entry))) ⌝ }
+    {
+        let page = self.unsigned(Argument::Page)?;
+        let places = self.unsigned_or(Argument::Places, SHARES_PLACES)?;
+        self.end()?;
+        Some(Call::Allot { page, places })
+    }
+
+    fn withdraw(&mut self) -> Option<Call>
+        ensures { λ r. ⌜ r ≡ withdraw (ahead (now (self .entry))) ⌝ }
+    {
+        let page = self.unsigned(Argument::Page)?;
+        self.end()?;
+        Some(Call::Withdraw { page })
+    }
+
+    fn subtotal(&mut self) -> Option<Question>
+        ensures { λ r. ⌜ r ≡ subtotal (ahead (now (self .entry))) ⌝ }
+    {
+        let path = self.path()?;
+        let key = self.key()?;
+        self.end()?;
+        Some(Question::Subtotal { path, key })
+    }
+
+    fn interval(&mut self) -> Option<Question>
+        ensures { λ r. ⌜ r ≡ interval (ahead (now (self .entry))) ⌝ }
+    {
+        let key = self.key()?;
+        self.end()?;
+        Some(Question::Interval { key })
+    }
+
+    fn code(&mut self) -> Option<Question>
+        ensures { λ r. ⌜ r ≡ code (ahead (now (self .entry))) ⌝ }
+    {
+        let code = self.unsigned(Argument::Code)?;
+        let participant = self.unsigned(Argument::Participant)?;
+        let page = self.unsigned(Argument::Page)?;
+        self.end()?;
+        Some(Question::Code {
+            code,
+            participant,
+            page,
+        })
+    }
+
+    fn group(&mut self) -> Option<Question>
+        ensures { λ r. ⌜ r ≡ group (ahead (now (self .entry))) ⌝ }
+    {
+        let group = self.unsigned(Argument::Group)?;
+        let participant = self.unsigned(Argument::Participant)?;
+        let page = self.unsigned(Argument::Page)?;
+        self.end()?;
+        Some(Question::Group {
+            group,
+            participant,
+            page,
+        })
+    }
+
+    fn parent(&mut self) -> Option<Question>
+        ensures { λ r. ⌜ r ≡ parent (ahead (now (self .entry))) ⌝ }
+    {
+        let parent = self.unsigned(Argument::Parent)?;
+        let participant = self.unsigned(Argument::Participant)?;
+        let page = self.unsigned(Argument::Page)?;
+        self.end()?;
+        Some(Question::Parent {
+            parent,
+            participant,
+            page,
+        })
+    }
+
+    fn settlement(&mut self) -> Option<Question>
+        ensures { λ r. ⌜ r ≡ settlement (ahead (now (self .entry))) ⌝ }
+    {
+        let participant = self.unsigned(Argument::Participant)?;
+        let page = self.unsigned(Argument::Page)?;
+        self.end()?;
+        Some(Question::Settlement { participant, page })
+    }
+
+    fn month(&mut self) -> Option<Question>
+        ensures { λ r. ⌜ r ≡ month (ahead (now (self .entry))) ⌝ }
+    {
+        let participant = self.unsigned(Argument::Participant)?;
+        self.end()?;
+        Some(Question::Month { participant })
+    }
+
+    fn balance(&mut self) -> Option<Question>
+        ensures { λ r. ⌜ r ≡ balance (ahead (now (self .entry))) ⌝ }
+    {
+        self.end()?;
+        Some(Question::Balance)
+    }
+
+    fn share(&mut self) -> Option<Sharing>
+        ensures { λ r. ⌜ r ≡ share (ahead (now (self .entry))) ⌝ }
+    {
+        let rule = self.rule()?;
+        let amount = self.signed(Argument::Amount)?;
+        let _ = self.signed(Argument::Weight)?;
+        self.all_signed(Argument::Weight)?;
+        Some(Sharing { rule, amount })
+    }
+
+    fn command(&mut self, verb: Verb) -> Option<Command>
+        ensures { λ r. ⌜ r ≡ arguments-of verb (ahead (now (self .entry))) ⌝ }
+    {
+        Some(
+            match verb {
+                Verb::Open => Command::Open(self.opening()?),
+                Verb::Post => Command::Call(self.post()?),
+                Verb::Meter => Command::Call(self.meter()?),
+                Verb::Adjust => Command::Call(self.adjust()?),
+                Verb::Allocate => Command::Call(self.allocate()?),
+                Verb::Strike => Command::Call(self.strike()?),
+                Verb::Allot => Command::Call(self.allot()?),
+                Verb::Withdraw => Command::Call(self.withdraw()?),
+                Verb::Subtotal => Command::Ask(self.subtotal()?),
+                Verb::Interval => Command::Ask(self.interval()?),
+                Verb::Code => Command::Ask(self.code()?),
+                Verb::Group => Command::Ask(self.group()?),
+                Verb::Parent => Command::Ask(self.parent()?),
+                Verb::Settlement => Command::Ask(self.settlement()?),
+                Verb::Month => Command::Ask(self.month()?),
+                Verb::Balance => Command::Ask(self.balance()?),
+                Verb::Share => Command::Share(self.share()?),
+            },
+        )
     }
 }
 
-// The command of a line, or None where it has no word.
-pub fn parse(line: &[u8]) -> Result<Option<Command<'_>>, Wrong<'_>> {
+// The command of a line, None where it has no word, or why it is no command.
+pub fn parse(line: &[u8]) -> Result<Option<Command>, Wrong<'_>>
+    ensures { λ r. ⌜ okPart r ≡ understood (now (line .entry)) ⌝ }
+{
     let mut words = Words::of(line);
     let Some(name) = words.next_word() else {
         return Ok(None);
     };
+    let Some(verb) = Verb::named(name) else {
+        return Err(Wrong {
+            found: Found::Word(name),
+            expected: Expected::Command,
+        });
+    };
     let mut arguments = Arguments::of(words);
-    let command = command(name, &mut arguments)?;
-    arguments.end()?;
-    Ok(Some(command))
+    match arguments.command(verb) {
+        Some(command) => Ok(Some(command)),
+        None => Err(arguments.wrong()),
+    }
+}
+
+// The weights of a line that gives a `share`: its words from the fourth on.
+pub fn share_weights(line: &[u8]) -> Words<'_>
+    ensures { λ r. ⌜ to-come r ≡ after-three (now (line .entry)) ⌝ }
+{
+    let mut words = Words::of(line);
+    let _ = words.next_word();
+    let _ = words.next_word();
+    let _ = words.next_word();
+    words
 }

@@ -3,6 +3,7 @@
 mod arguments;
 mod command;
 mod grammar;
+mod verb;
 mod wrong;
 
 pub use command::Call;
@@ -10,9 +11,11 @@ pub use command::Command;
 pub use command::Key;
 pub use command::Opening;
 pub use command::Path;
+pub use command::Places;
 pub use command::Question;
 pub use command::RuleName;
 pub use command::Sharing;
 pub use grammar::parse;
+pub use grammar::share_weights;
 pub use wrong::Wrong;
 pub use wrong::WrongDisplay;

@@ -1,13 +1,19 @@
 // Answers one command after another.
+ghost use mathlib.Core.Path.{_≡_};
+ghost use Rattle.shares.specs.Faults.{share-answer, shared};
+ghost use Rattle.settle.specs.Rules.{split-named};
+use crate::answer::show_no_month;
+use crate::answer::show_refusal;
+use crate::answer::show_shares;
 use crate::sheet::Sheet;
 use script::Command;
 use script::RuleName;
 use script::Sharing;
+use script::share_weights;
 use shares::LargestRemainder;
 use shares::LargestRemainderRule;
 use shares::Nearest;
 use shares::NearestRule;
-use shares::Refusal;
 use shares::RuleFault;
 use shares::RunningCarry;
 use shares::RunningCarryRule;
@@ -15,35 +21,15 @@ use shares::ShareRule;
 use std::alloc::AllocError;
 use std::alloc::Global;
 use std::io::Write;
+use text::Line;
 use text::WordsIterator;
 use text::read_signed;
 
-// What a refusal's number means.
-fn meaning(number: u8) -> &'static [u8] {
-    match number {
-        1 => b"year, month or number of participants outside, or a book with lines",
-        2 => b"code, group or parent not in the table",
-        3 => b"code not for this call",
-        4 => b"participant outside",
-        5 => b"page or interval outside, or not of this code",
-        6 => b"amount or reading beyond its limit",
-        7 => b"demand or weights outside their limits",
-        8 => b"page or interval not open for this call",
-        9 => b"a day is not allotted",
-        10 => b"amount to share beyond its limit",
-        11 => b"no weight for an amount other than 0",
-        12 => b"too few free lines",
-        13 => b"fewer places than shares",
-        _ => b"unknown",
-    }
-}
-
-fn share(
-    rule: RuleName,
-    amount: i64,
-    weights: &[i64],
-    shares: &mut [i64],
-) -> Result<(), RuleFault> {
+// Shares by the rule that a script names.
+fn share(rule: RuleName, amount: i64, weights: &[i64], shares: &mut [i64]) -> Result<(), RuleFault>
+    ensures answer { λ r. ⌜ r ≡ share-answer amount (now (weights .entry)) (now (shares .entry)) ⌝ }
+    ensures places { λ _. ⌜ now (shares .exit) ≡ shared (split-named rule) amount (now (weights .entry)) (now (shares .entry)) ⌝ }
+{
     match rule {
         RuleName::Nearest => Nearest.share(amount, weights, shares),
         RuleName::LargestRemainder => LargestRemainder.share(amount, weights, shares),
@@ -51,6 +37,7 @@ fn share(
     }
 }
 
+// The buffers are kept from command to command, and grow with the longest list of weights.
 #[derive(Drop)]
 pub struct Desk {
     weights: Vec<i64>,
@@ -67,62 +54,38 @@ impl Desk {
 
     pub fn answer<W: Write + Drop>(
         &mut self,
-        command: Command<'_>,
+        command: Command,
+        line: &Line<'_>,
         sheet: &mut Sheet<W>,
     ) -> Result<(), AllocError> {
         match command {
-            Command::Share(sharing) => self.share(sharing, sheet),
-            Command::Open(_) | Command::Call(_) | Command::Ask(_) => {
-                sheet.count_refused();
-                sheet.word(b"no month is open")
-            }
+            Command::Share(sharing) => self.share(sharing, line, sheet),
+            Command::Open(_) | Command::Call(_) | Command::Ask(_) => show_no_month(sheet),
         }
     }
 
     fn share<W: Write + Drop>(
         &mut self,
-        sharing: Sharing<'_>,
+        sharing: Sharing,
+        line: &Line<'_>,
         sheet: &mut Sheet<W>,
     ) -> Result<(), AllocError> {
         self.weights.clear();
-        for word in sharing.weights {
+        for word in share_weights(line.text) {
             if let Some(weight) = read_signed(word) {
                 self.weights.push(weight)?;
             }
         }
         self.shares.resize(self.weights.len(), 0)?;
+        let weights = self.weights.as_slice();
         match share(
             sharing.rule,
             sharing.amount,
-            self.weights.as_slice(),
+            weights,
             self.shares.as_mut_slice(),
         ) {
             Ok(()) => show_shares(self.shares.as_slice(), sheet),
             Err(fault) => show_refusal(fault.refusal(), sheet),
         }
     }
-}
-
-fn show_shares<W: Write + Drop>(shares: &[i64], sheet: &mut Sheet<W>) -> Result<(), AllocError> {
-    sheet.count_granted();
-    sheet.word(b"shares")?;
-    for share in shares {
-        sheet.number(*share)?;
-    }
-    Ok(())
-}
-
-fn show_refusal<W: Write + Drop>(refusal: Refusal, sheet: &mut Sheet<W>) -> Result<(), AllocError> {
-    sheet.count_refused();
-    sheet.word(b"refused")?;
-    sheet.number(i64::from(refusal.number))?;
-    sheet.word(b" layer")?;
-    sheet.number(i64::from(refusal.layer))?;
-    sheet.word(b" at")?;
-    sheet.number(i64::from(refusal.code))?;
-    sheet.number(i64::from(refusal.participant))?;
-    sheet.number(i64::from(refusal.page))?;
-    sheet.number(i64::from(refusal.interval))?;
-    sheet.word(b": ")?;
-    sheet.word(meaning(refusal.number))
 }

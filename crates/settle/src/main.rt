@@ -1,5 +1,6 @@
 // The program: reads an exercise, runs it through the library, and prints the key.
 // No rule of a settlement lives here; what the script's words mean stands in `script`.
+mod answer;
 mod desk;
 mod help;
 mod input;
@@ -41,7 +42,7 @@ fn run<W: Write + Drop>(heap: Global, text: &[u8], to: W) -> io::Result<()> {
     for line in Lines::of(text) {
         if let Ok(Some(command)) = parse(line.text) {
             sheet.begin(&line)?;
-            desk.answer(command, &mut sheet)?;
+            desk.answer(command, &line, &mut sheet)?;
             sheet.end()?;
         }
     }

@@ -10,10 +10,14 @@ use lib.ListN.{length, take}
 use Rattle.std.proofs.shelf.Bits.{le-div}
 use Rattle.std.proofs.shelf.Lists.{take-all}
 use Rattle.std.proofs.shelf.Tests.{cases-eq}
+use Rattle.shares.specs.declared.division.Division.{Division}
+use Rattle.shares.specs.declared.running_carry.Carry.{Carry}
 use Rattle.shares.specs.Laws.{Fair, Exact}
 use Rattle.shares.specs.RunningCarry.{running, carry-size, running-carry}
 use Rattle.shares.specs.Sizes.{part, whole}
 use Rattle.shares.specs.Weights.{None-below-zero}
+use Rattle.shares.specs.Workings.{carried, Divides}
+use Rattle.shares.proofs.Quotients.{quotient-le}
 use Rattle.shares.proofs.Sharing.{fair-by-sizes, exact-by-sizes}
 use Rattle.shares.proofs.Totals.{whole-more, whole-take-le}
 
@@ -30,6 +34,9 @@ pub running-more : (a : ℕ) (w : List ℤ) (i : ℕ) → None-below-zero w → 
 running-more a w i s l =
     let m : whole (take i w) ≤ whole (take (i + 1) w) = omega (arith, whole-more w i s l) in
     omega (arith, div-mono (a * whole (take i w)) (a * whole (take (i + 1) w)) (whole w) (mul-le-mul-left a m))
+
+pub running-le : (a : ℕ) (w : List ℤ) (i : ℕ) → None-below-zero w → running a w i ≤ a
+running-le a w i s = quotient-le a (whole (take i w)) (whole w) (whole-take-le w i s)
 
 -- of p and x more, the rounded-down parts differ by about x's own
 carry-low : (a t p x : ℕ) → 0 < t → t * (a * (p + x) / t - a * p / t) < a * x + t
@@ -60,8 +67,12 @@ running-carry-exact = exact-by-sizes carry-size (λ a w s p. record {
   sums-all = ap (λ v. a * whole v / whole w) (take-all (length w) w (omega arith)) ∙ mul-div-cancel a p;
 })
 
--- the weights up to place i and the one there are those up to the next, and no more than all
-pub weighed-more : (w : List ℤ) (i p x : ℕ) → None-below-zero w → i < length w → p ≡ whole (take i w) → x ≡ part w i → (p + x ≡ whole (take (i + 1) w)) × (p + x ≤ whole w)
-weighed-more w i p x s l e h =
-    let m : p + x ≡ whole (take (i + 1) w) = omega (arith, whole-more w i s l) in
-    (m, omega (arith, whole-take-le w (i + 1) s))
+-- what is carried to place i
+abbrev pub carried-to : Division → List ℤ → ℕ → Carry
+carried-to d w i = record { weighed = whole (take i w); running = running (d .size) w i }
+
+pub carried-more : (d : Division) (w : List ℤ) (i x : ℕ) → Divides d w → i < length w → x ≡ part w i → carried d (carried-to d w i) x ≡ carried-to d w (i + 1)
+carried-more d w i x v l e =
+    let m : whole (take i w) + x ≡ whole (take (i + 1) w) = omega (arith, whole-more w i (v .none-below-zero) l) in
+    ap (λ p. record { weighed = p; running = d .size * p / d .total }) m
+    ∙ ap (λ t. record { weighed = whole (take (i + 1) w); running = d .size * whole (take (i + 1) w) / t }) (v .by-total)

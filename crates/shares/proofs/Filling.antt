@@ -1,18 +1,17 @@
 -- What every rule's code goes by: what it knows once it is admitted, and places that are filled one after another.
 use mathlib.Core.Path.{_≡_, refl, sym, ap, _∙_, subst⁻¹}
-use mathlib.Core.List.{List, [], _∷_, _++_, map}
+use mathlib.Core.List.{List, [], _∷_, _++_}
 use mathlib.Core.Logic.{_⊎_, inl, inr}
 use Prim.Native.Nat.{ℕ, _+_, _-_, _<_, _≤_}
 use native.Mathlib.Omega.{arith}
 use lib.IntN.{ℤ, pos, natAbs}
-use lib.ListN.{length, take, drop, set, getD}
+use lib.ListN.{length, take, drop, set}
 use lib.Signed.{_<ℤ_}
 use mir.Val.{SFits, toZ, ofZ}
 use mir.Syntax.{w64}
-use Rattle.std.specs.Iters.{counting}
 use Rattle.std.specs.declared.option.Option.{Option}
 use Rattle.std.specs.declared.option.Option.the-variants.{Some, None}
-use Rattle.std.specs.declared.result.Result.the-variants.{Ok, Err}
+use Rattle.std.specs.declared.result.Result.the-variants.{Ok}
 use Rattle.std.proofs.shelf.Counted.{length-map-counting, getD-map-counting}
 use Rattle.std.proofs.shelf.Lists.{append-assoc, append-nil, drop-all, drop-more, getD-append-right, getD-drop, length-take-le, set-append-right, take-all, take-more}
 use Rattle.std.proofs.shelf.Signed.{ints, toZ-ofZ}
@@ -20,8 +19,9 @@ use Rattle.shares.specs.declared.division.Division.{Division}
 use Rattle.shares.specs.declared.fault.RuleFault.{RuleFault}
 use Rattle.shares.specs.Faults.{refusal, answered, share-answer, shared}
 use Rattle.shares.specs.Laws.{Answers}
-use Rattle.shares.specs.Sizes.{Within, Divides, part, whole, signed, sharing, shares-by, division}
+use Rattle.shares.specs.Sizes.{Sizing, part, whole, signed, sharing, shares-by, division, admission}
 use Rattle.shares.specs.Weights.{weight-limit, at, total}
+use Rattle.shares.specs.Workings.{Divides, Within}
 use Rattle.shares.proofs.Sharing.{length-shares-by}
 use Rattle.shares.proofs.Totals.{whole-within}
 use Rattle.shares.proofs.Verdicts.{granted}
@@ -37,7 +37,7 @@ answered-ok : {X : Type 0} (o : Option RuleFault) (x y : X) → Ok x ≡ answere
 answered-ok (Some f) x y e = let z : _≡_ {A = ℕ} 0 1 = cc in absurd (omega arith)
 answered-ok None x y e = (refl, cc)
 
-pub admitted : (a : ℤ) (w : List ℤ) (n : ℕ) (d : Division) → SFits w64 a → Ok d ≡ answered (refusal (toZ w64 (ofZ w64 a)) w n) (division (toZ w64 (ofZ w64 a)) w) → Admitted a w n d
+pub admitted : (a : ℤ) (w : List ℤ) (n : ℕ) (d : Division) → SFits w64 a → Ok d ≡ admission (toZ w64 (ofZ w64 a)) w n → Admitted a w n d
 admitted a w n d f e =
     let p = answered-ok (refusal a w n) d (division a w) (simp toZ-ofZ at e) in
     let g = granted a w n (p .0) in
@@ -64,11 +64,11 @@ divides a w n d m =
 pub within : (d : Division) (w : List ℤ) (x : ℕ) → Divides d w → x ≤ whole w → Within d x
 within d w x v h = record { size-within = v .size-within; total-within = v .total-within; part-within = omega (arith, v .by-total) }
 
-pub length-sharing : (size : ℕ → List ℤ → ℕ → ℕ) (d : Division) (w : List ℤ) → length (sharing size d w) ≡ length w
+pub length-sharing : (size : Sizing) (d : Division) (w : List ℤ) → length (sharing size d w) ≡ length w
 length-sharing size d w = length-map-counting (λ i. signed (d .negative) (size (d .size) w i)) 0 (length w)
 
 -- the places once the first i hold their shares
-abbrev pub filled-to : (ℕ → List ℤ → ℕ → ℕ) → Division → List ℤ → List ℤ → ℕ → List ℤ
+abbrev pub filled-to : Sizing → Division → List ℤ → List ℤ → ℕ → List ℤ
 filled-to size d w places i = take i (sharing size d w) ++ drop i places
 
 -- a list whose first i elements are those of another, one element on
@@ -83,7 +83,7 @@ pub filled-up : (new old : List ℤ) (i : ℕ) → length new ≤ i → length o
 filled-up new old i l m = ap (λ s. s ++ drop i old) (take-all i new l) ∙ ap (λ s. new ++ s) (drop-all i old m) ∙ append-nil new
 
 -- the next place still holds what it did
-pub unfilled-at : (size : ℕ → List ℤ → ℕ → ℕ) (d : Division) (w old now : List ℤ) (i : ℕ) → i < length w → now ≡ filled-to size d w old i → at now i ≡ at old i
+pub unfilled-at : (size : Sizing) (d : Division) (w old now : List ℤ) (i : ℕ) → i < length w → now ≡ filled-to size d w old i → at now i ≡ at old i
 unfilled-at size d w old now i l was =
     let long = length-sharing size d w in
     let front : length (take i (sharing size d w)) ≡ i = length-take-le i (sharing size d w) (omega arith) in
@@ -93,7 +93,7 @@ unfilled-at size d w old now i l was =
     ∙ ap (at old) (omega arith)
 
 -- one place more: x is the share of the size n
-pub filled-more : (size : ℕ → List ℤ → ℕ → ℕ) (d : Division) (w old now : List ℤ) (i n : ℕ) (x : ℤ) → i < length w → length w ≤ length old → now ≡ filled-to size d w old i → SFits w64 x → x ≡ signed (d .negative) n → n ≡ size (d .size) w i → set now i (toZ w64 (ofZ w64 x)) ≡ filled-to size d w old (i + 1)
+pub filled-more : (size : Sizing) (d : Division) (w old now : List ℤ) (i n : ℕ) (x : ℤ) → i < length w → length w ≤ length old → now ≡ filled-to size d w old i → SFits w64 x → x ≡ signed (d .negative) n → n ≡ size (d .size) w i → set now i (toZ w64 (ofZ w64 x)) ≡ filled-to size d w old (i + 1)
 filled-more size d w old now i n x l m was f e s =
     let share : toZ w64 (ofZ w64 x) ≡ at (sharing size d w) i =
     toZ-ofZ w64 x f ∙ e ∙ ap (signed (d .negative)) s
@@ -102,13 +102,13 @@ filled-more size d w old now i n x l m was f e s =
     ap (λ s. set s i (toZ w64 (ofZ w64 x))) was ∙ fill-more (sharing size d w) old i _ (omega arith) (omega arith) share
 
 -- the shares, and the later places as they were: the rule has answered
-pub shared-from : (size : ℕ → List ℤ → ℕ → ℕ) (a : ℤ) (w old new : List ℤ) (d : Division) (n : ℕ) → Admitted a w (length old) d → n ≡ length w → new ≡ sharing size d w → new ++ drop n old ≡ shared (shares-by size) a w old
+pub shared-from : (size : Sizing) (a : ℤ) (w old new : List ℤ) (d : Division) (n : ℕ) → Admitted a w (length old) d → n ≡ length w → new ≡ sharing size d w → new ++ drop n old ≡ shared (shares-by size) a w old
 shared-from size a w old new d n m e s =
     ap (λ xs. xs ++ drop n old) (s ∙ ap (λ b. sharing size b w) (m .same))
     ∙ ap (λ k. shares-by size a w ++ drop k old) (e ∙ sym (length-shares-by size a w))
     ∙ simp (m .none-refused)
 
-pub filled-all : (size : ℕ → List ℤ → ℕ → ℕ) (a : ℤ) (w old now : List ℤ) (d : Division) (i : ℕ) → Admitted a w (length old) d → i ≡ length w → now ≡ filled-to size d w old i → now ≡ shared (shares-by size) a w old
+pub filled-all : (size : Sizing) (a : ℤ) (w old now : List ℤ) (d : Division) (i : ℕ) → Admitted a w (length old) d → i ≡ length w → now ≡ filled-to size d w old i → now ≡ shared (shares-by size) a w old
 filled-all size a w old now d i m e was =
     was ∙ shared-from size a w old (take i (sharing size d w)) d i m e (take-all i (sharing size d w) (omega (arith, length-sharing size d w)))
 

@@ -1,7 +1,6 @@
 -- Nearest is fair, and rounds to the nearest cent.
 use mathlib.Core.Path.{_≡_, ap, _∙_}
-use mathlib.Core.List.{List}
-use Prim.Native.Nat.{ℕ, _+_, _*_, _/_, _<_}
+use Prim.Native.Nat.{ℕ, _+_, _*_, _<_}
 use native.Mathlib.Omega.{arith}
 use native.Mathlib.Nat.{lt-mul-div-succ, mul-div-le, mul-zero, mul-assoc, div-zero, div-eq-of-lt}
 use lib.IntN.{ℤ, pos, natAbs, _*ℤ_}

@@ -1,7 +1,7 @@
 -- Quotients of a size and a part: how large they are, and how near to what they round.
-use mathlib.Core.Path.{_≡_, refl}
+use mathlib.Core.Path.{_≡_}
 use mathlib.Core.Logic.{⊎-elim}
-use Prim.Native.Nat.{ℕ, _+_, _*_, _/_, _≤_, _<_}
+use Prim.Native.Nat.{ℕ, _+_, _*_, _/_, _≤_}
 use native.Mathlib.Omega.{arith}
 use native.Mathlib.Nat.{div-zero, div-le-of-le-mul, mul-comm, mul-assoc, mul-le-mul-left, add-mul}
 use Rattle.std.proofs.shelf.Bits.{div-below, mul-le}

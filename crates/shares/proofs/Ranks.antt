@@ -7,12 +7,13 @@ use Prim.Native.Nat.{ℕ, zero, suc, min, _+_, _-_, _<_, _≤_}
 use native.Mathlib.Omega.{arith}
 use lib.Dec.{ltb, leb, eqb}
 use lib.ListN.{length, getD, take}
-use Rattle.std.specs.shelf.Lists.{sumBy, countBy}
+use Rattle.std.specs.shelf.Lists.{countBy}
 use Rattle.std.proofs.shelf.Lists.{take-all}
 use Rattle.std.proofs.shelf.Sums.{sumBy-cons, sumBy-take-le, countBy-more-yes, countBy-more-no}
 use Rattle.std.proofs.shelf.Tests.{cases-lt, cases-eq, cases-order, le-leb, lt-ltb, le-ltb, eq-eqb, ne-eqb}
 use Rattle.std.proofs.shelf.Ways.{tells}
-use Rattle.shares.specs.LargestRemainder.{above, alike, rank, cent, Edge, dealt, ties-left}
+use Rattle.shares.specs.LargestRemainder.{above, alike, rank, cent}
+use Rattle.shares.specs.Workings.{dealt, Edge, ties-left}
 use Rattle.shares.proofs.Counts.{sumBy-mono, sumBy-both-le, sumBy-le-both}
 
 -- how many remainders are at the edge or above

@@ -14,10 +14,11 @@ use Rattle.std.proofs.shelf.Bits.{mod-below}
 use Rattle.std.proofs.shelf.Lists.{getD-map, length-map, take-all}
 use Rattle.std.proofs.shelf.Sums.{countBy-le-length, sumBy-more}
 use Rattle.std.proofs.shelf.Tests.{cases-eq, cond-both, le-ltb, lt-leb, ltb-false}
-use Rattle.shares.specs.LargestRemainder.{rounded-down, remainder, remainders, missing, above, rank, cent, remainder-size, largest-remainder, Edge, held}
+use Rattle.shares.specs.LargestRemainder.{rounded-down, remainder, remainders, missing, above, rank, cent, remainder-size, largest-remainder}
 use Rattle.shares.specs.Laws.{Fair, Exact}
 use Rattle.shares.specs.Sizes.{part, whole}
 use Rattle.shares.specs.Weights.{at, None-below-zero}
+use Rattle.shares.specs.Workings.{Edge, held}
 use Rattle.shares.proofs.Counts.{sumBy-mono, sumBy-same, sumBy-both, sumBy-scale, sumBy-map, sumBy-none}
 use Rattle.shares.proofs.Ranks as ranks
 use Rattle.shares.proofs.Ranks.{from, edge-below}

@@ -1,6 +1,5 @@
 -- What the laws say of the places that any fair rule has filled.
-use mathlib.Core.Path.{_≡_, refl, sym, ap, _∙_, subst⁻¹}
-use mathlib.Core.Bool.{true}
+use mathlib.Core.Path.{_≡_, ap, _∙_, subst⁻¹}
 use mathlib.Core.List.{List, _++_}
 use mathlib.Core.Logic.{⊎-elim}
 use Prim.Native.Nat.{ℕ, _+_, _*_, _<_, _≤_}
@@ -9,17 +8,12 @@ use native.Mathlib.Nat.{lt-of-mul-lt-mul-left, mul-add, mul-comm, mul-le-mul-lef
 use lib.IntN.{ℤ, pos, natAbs, _*ℤ_}
 use lib.ListN.{length, take, drop}
 use lib.Signed.{_<ℤ_}
-use Rattle.std.specs.Results.{isOk}
-use Rattle.std.specs.declared.option.Option.{Option}
-use Rattle.std.specs.declared.option.Option.the-variants.{Some, None}
-use Rattle.std.specs.declared.result.Result.{Result}
+use Rattle.std.specs.declared.option.Option.the-variants.{None}
 use Rattle.std.proofs.shelf.Lists.{getD-append-left, take-at}
 use Rattle.std.proofs.shelf.Signed.{ints}
-use Rattle.shares.specs.declared.fault.RuleFault.{RuleFault}
-use Rattle.shares.specs.Faults.{refusal, answered, filled, share-answer, shared}
-use Rattle.shares.specs.Laws.{Answers, Near, Lawful, Shared-out, Fair}
-use Rattle.shares.specs.Sizes.{part, whole}
-use Rattle.shares.specs.Weights.{at, total}
+use Rattle.shares.specs.Faults.{refusal, filled, shared}
+use Rattle.shares.specs.Laws.{Answers, Near, Lawful, Fair, Exact, Shared-out, Fills-lawfully}
+use Rattle.shares.specs.Weights.{Split, at, total}
 use Rattle.shares.proofs.Products.{abs-mul, abs-from}
 use Rattle.shares.proofs.Totals.{cases-total, part-le}
 use Rattle.shares.proofs.Verdicts.{granted}
@@ -42,21 +36,28 @@ no-larger a w s r law i l = ⊎-elim some none (cases-total w (r .none-below-zer
   none : total w ≡ pos 0 → natAbs (at s i) ≤ natAbs a
   none z = ⊎-elim (λ h. some h) (λ e. omega (arith, ap natAbs (law .all-zero z e i l))) (r .some-weight-or-nothing-to-share)
 
-granted-ok : (o : Option RuleFault) (r : Result (Unit {0}) RuleFault) → r ≡ answered o tt → isOk r ≡ true → o ≡ None
-granted-ok (Some f) r e k = let z : _≡_ {A = ℕ} 0 1 = cc in absurd (omega arith)
-granted-ok None r e k = refl
+-- the places that a granted call leaves
+module _ (split : Split) (a : ℤ) (w places : List ℤ) (fair : Fair split) (none : refusal a w (length places) ≡ None) where
+  answers : Answers a w
+  answers = granted a w (length places) none .0
 
-pub shared-out : (split : ℤ → List ℤ → List ℤ) → Fair split → (a : ℤ) (w old new : List ℤ) (r : Result (Unit {0}) RuleFault) → r ≡ share-answer a w old → new ≡ shared split a w old → isOk r ≡ true → Shared-out a w new
-shared-out split fair a w old new r e p ok =
-    let none = granted-ok (refusal a w (length old)) r e ok in
-    let g = granted a w (length old) none in
-    let law = fair a w (g .0) in
-    let is : new ≡ split a w ++ drop (length (split a w)) old = p ∙ ap (λ o. filled o (split a w) old) none in
-    let front : take (length w) new ≡ split a w = ap (take (length w)) is ∙ take-at (split a w) _ (length w) (law .one-each) in
-    record {
-      answers = g .0;
-      lawful = subst⁻¹ (Lawful a w) front law;
-      no-larger = λ i l.
-          let e : at new i ≡ at (split a w) i = ap (λ s. at s i) is ∙ getD-append-left (split a w) _ (pos 0) i (omega (arith, law .one-each)) in
-          rw e (no-larger a w (split a w) (g .0) law i l);
-    }
+  places-are : shared split a w places ≡ split a w ++ drop (length (split a w)) places
+  places-are = ap (λ o. filled o (split a w) places) none
+
+  front : take (length w) (shared split a w places) ≡ split a w
+  front = ap (take (length w)) places-are ∙ take-at (split a w) _ (length w) (fair a w answers .one-each)
+
+  shared-out : Shared-out a w (shared split a w places)
+  shared-out = record {
+    answers = answers;
+    lawful = subst⁻¹ (Lawful a w) front (fair a w answers);
+    no-larger = λ i l.
+        let e : at (shared split a w places) i ≡ at (split a w) i = ap (λ s. at s i) places-are ∙ getD-append-left (split a w) _ (pos 0) i (omega (arith, fair a w answers .one-each)) in
+        rw e (no-larger a w (split a w) answers (fair a w answers) i l);
+  }
+
+  shared-exactly : Exact split → pos 0 <ℤ total w → total (take (length w) (shared split a w places)) ≡ a
+  shared-exactly exact some = ap total front ∙ exact a w answers some
+
+pub fills-lawfully : Fills-lawfully
+fills-lawfully = record { fair = shared-out; exact = λ split a w places f e none. shared-exactly split a w places f none e }

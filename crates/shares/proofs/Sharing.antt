@@ -1,29 +1,28 @@
 -- Shares by their sizes: what of the sizes makes a rule fair, and what makes it exact.
-use mathlib.Core.Path.{_≡_, refl, sym, ap, _∙_, subst}
+use mathlib.Core.Path.{_≡_, refl, sym, ap, _∙_}
 use mathlib.Core.Bool.{Bool, true, false}
-use mathlib.Core.List.{List, [], _∷_, _++_, map}
-use mathlib.Core.Logic.{⊎-elim}
-use Prim.Native.Nat.{ℕ, zero, suc, _+_, _*_, _<_, _≤_}
+use mathlib.Core.List.{List, map}
+use Prim.Native.Nat.{ℕ, zero, suc, _+_, _*_, _<_}
 use native.Mathlib.Omega.{arith}
 use native.Mathlib.Numerals.{add-one}
-use lib.IntN.{ℤ, pos, negsuc, negℤ, natAbs, _+ℤ_, _-ℤ_, _*ℤ_}
+use lib.IntN.{ℤ, pos, negsuc, natAbs, _+ℤ_}
 use lib.ListN.{length}
-use lib.Signed.{_<ℤ_, _≤ℤ_, ltZ}
-use borrow.Author.Differences.{up, down}
+use lib.Signed.{_<ℤ_, ltZ}
+use borrow.Author.Differences.{up}
 use Rattle.std.specs.Iters.{counting}
 use Rattle.std.proofs.shelf.Counted.{length-map-counting, getD-map-counting, map-counting-more}
 use Rattle.std.proofs.shelf.Signed.{ints}
 use Rattle.std.proofs.shelf.Tests.{le-ltb}
-use Rattle.shares.specs.Laws.{Answers, off, Near, Lawful, Fair, Exact}
-use Rattle.shares.specs.Sizes.{part, whole, signed, shares-by}
+use Rattle.shares.specs.Laws.{off, Near, Fair, Exact}
+use Rattle.shares.specs.Sizes.{Sizing, part, whole, signed, shares-by}
 use Rattle.shares.specs.Weights.{at, total, None-below-zero}
 use Rattle.shares.proofs.Products.{distance, off-signed}
 use Rattle.shares.proofs.Totals.{total-push, total-whole}
 
-pub length-shares-by : (size : ℕ → List ℤ → ℕ → ℕ) (a : ℤ) (w : List ℤ) → length (shares-by size a w) ≡ length w
+pub length-shares-by : (size : Sizing) (a : ℤ) (w : List ℤ) → length (shares-by size a w) ≡ length w
 length-shares-by size a w = length-map-counting (λ i. signed (ltZ a (pos 0)) (size (natAbs a) w i)) 0 (length w)
 
-pub at-shares-by : (size : ℕ → List ℤ → ℕ → ℕ) (a : ℤ) (w : List ℤ) (i : ℕ) → i < length w → at (shares-by size a w) i ≡ signed (ltZ a (pos 0)) (size (natAbs a) w i)
+pub at-shares-by : (size : Sizing) (a : ℤ) (w : List ℤ) (i : ℕ) → i < length w → at (shares-by size a w) i ≡ signed (ltZ a (pos 0)) (size (natAbs a) w i)
 at-shares-by size a w i l = getD-map-counting (λ j. signed (ltZ a (pos 0)) (size (natAbs a) w j)) 0 (length w) i i (pos 0) l (omega arith)
 
 pub signed-zero : (b : Bool) → signed b 0 ≡ pos 0
@@ -40,20 +39,20 @@ signed-add false m n = refl
 signed-add true m n = omega (arith, ints)
 
 -- a share is as far off as its size
-pub off-share : (size : ℕ → List ℤ → ℕ → ℕ) (a : ℤ) (w : List ℤ) (i : ℕ) → None-below-zero w → i < length w → off (total w) a (at w i) (at (shares-by size a w) i) ≡ distance (whole w * size (natAbs a) w i) (natAbs a * part w i)
+pub off-share : (size : Sizing) (a : ℤ) (w : List ℤ) (i : ℕ) → None-below-zero w → i < length w → off (total w) a (at w i) (at (shares-by size a w) i) ≡ distance (whole w * size (natAbs a) w i) (natAbs a * part w i)
 off-share size a w i s l =
     ap (λ x. off (total w) a (at w i) x) (at-shares-by size a w i l)
     ∙ ap (λ t. off t a (at w i) (signed (ltZ a (pos 0)) (size (natAbs a) w i))) (total-whole w s)
     ∙ off-signed a (at w i) (whole w) (size (natAbs a) w i) (s i l)
 
 -- what of the sizes makes a rule fair
-pub record Fair-sizes (size : ℕ → List ℤ → ℕ → ℕ) : Type 0 where
+pub record Fair-sizes (size : Sizing) : Type 0 where
   pub not-above : (a : ℕ) (w : List ℤ) (i : ℕ) → None-below-zero w → 0 < whole w → i < length w → whole w * size a w i < a * part w i + whole w
   pub not-under : (a : ℕ) (w : List ℤ) (i : ℕ) → None-below-zero w → 0 < whole w → i < length w → a * part w i < whole w * size a w i + whole w
   pub no-part-no-size : (a : ℕ) (w : List ℤ) (i : ℕ) → None-below-zero w → 0 < whole w → i < length w → part w i ≡ 0 → size a w i ≡ 0
   pub no-whole-no-size : (w : List ℤ) (i : ℕ) → None-below-zero w → whole w ≡ 0 → i < length w → size 0 w i ≡ 0
 
-pub fair-by-sizes : (size : ℕ → List ℤ → ℕ → ℕ) → Fair-sizes size → Fair (shares-by size)
+pub fair-by-sizes : (size : Sizing) → Fair-sizes size → Fair (shares-by size)
 fair-by-sizes size f a w s = record {
   one-each = length-shares-by size a w;
   near = near;
@@ -93,7 +92,7 @@ total-shares b size sums none (suc n) more =
     ∙ ap (signed b) (sym (more n (omega arith)))
     ∙ ap (λ k. signed b (sums k)) (add-one n)
 
-pub exact-by-sizes : (size : ℕ → List ℤ → ℕ → ℕ) → ((a : ℕ) (w : List ℤ) → None-below-zero w → 0 < whole w → Adds-up (size a w) (length w) a) → Exact (shares-by size)
+pub exact-by-sizes : (size : Sizing) → ((a : ℕ) (w : List ℤ) → None-below-zero w → 0 < whole w → Adds-up (size a w) (length w) a) → Exact (shares-by size)
 exact-by-sizes size adds a w s some =
     let p : 0 < whole w = omega (arith, ints) in
     let up = adds (natAbs a) w (s .none-below-zero) p in

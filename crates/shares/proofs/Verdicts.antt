@@ -1,25 +1,30 @@
 -- When weights, amounts and places are refused, in the subject's words.
 use mathlib.Core.Path.{_≡_, refl, ap}
-use mathlib.Core.Bool.{Bool, true, false, _||_}
+use mathlib.Core.Bool.{Bool, true, false, cond, _||_}
 use mathlib.Core.List.{List}
 use mathlib.Core.Logic.{_⊎_, inl, inr, ⊎-elim}
-use Prim.Native.Nat.{ℕ, zero, suc, _<_, _≤_}
+use Prim.Native.Nat.{ℕ, _+_, _<_, _≤_}
 use native.Mathlib.Omega.{arith}
-use lib.IntN.{ℤ, pos, negsuc, natAbs}
+use lib.Dec.{ltb}
+use lib.IntN.{ℤ, pos, natAbs}
 use lib.ListN.{length, take}
 use lib.Signed.{_<ℤ_, _≤ℤ_, ltZ}
 use Rattle.std.specs.Orderings.{Decides}
-use Rattle.std.specs.declared.option.Option.the-variants.{None}
-use Rattle.std.specs.shelf.Lists.{sumBy}
+use Rattle.std.specs.declared.option.Option.the-variants.{Some, None}
+use Rattle.std.specs.declared.result.Result.the-variants.{Ok, Err}
 use Rattle.std.proofs.shelf.Lists.{getD-default}
 use Rattle.std.proofs.shelf.Signed.{ints, by-ltZ}
 use Rattle.std.proofs.shelf.Sums.{sumBy-take-le}
-use Rattle.std.proofs.shelf.Tests.{or-parts, cases-bool, both-ways}
+use Rattle.std.proofs.shelf.Tests.{cases-bool, both-ways, ltb-false, ltb-true}
 use Rattle.std.proofs.shelf.Ways.{tells, decides-like, decides-or, decides-by-or}
-use Rattle.shares.specs.Faults.{refusal}
+use Rattle.shares.specs.declared.fault.RuleFault.{RuleFault}
+use Rattle.shares.specs.declared.fault.RuleFault.the-variants.{Weights}
+use Rattle.shares.specs.Faults.{answered, refusal}
 use Rattle.shares.specs.Laws.{Answers, Refuses-rightly}
+use Rattle.shares.specs.Sizes.{part}
 use Rattle.shares.specs.Weights.{weight-limit, amount-limit, at, total, None-below-zero, Some-below-zero, has-negative, weights-outside}
-use Rattle.shares.proofs.Totals.{total-is, cases-total, none-below-take}
+use Rattle.shares.specs.Workings.{weight-refusal}
+use Rattle.shares.proofs.Totals.{total-is, cases-total, none-below-take, running-more}
 
 decides-ltZ : (x y : ℤ) → Decides (ltZ x y) (x <ℤ y)
 decides-ltZ x y = (λ e. grind (arith, ints), λ h. grind (arith, ints))
@@ -46,9 +51,6 @@ outside-by-front w i t e h = decides-outside w .1 (⊎-elim inl (λ s. inr (abov
   above : None-below-zero w → pos weight-limit <ℤ total w
   above s = omega (arith, ints, total-is (take i w) (none-below-take w i s), total-is w s, sumBy-take-le natAbs w i)
 
-pub outside-below : (w : List ℤ) (i : ℕ) → i < length w → at w i <ℤ pos 0 → weights-outside w ≡ true
-outside-below w i l h = decides-outside w .1 (inl (i, l, h))
-
 pub inside : (w : List ℤ) → None-below-zero w → total w ≤ℤ pos weight-limit → weights-outside w ≡ false
 inside w s h = ⊎-elim (λ e. absurd (⊎-elim below above (decides-outside w .0 e))) (λ e. e) (cases-bool (weights-outside w)) where
   below : Some-below-zero w → ⊥
@@ -56,6 +58,24 @@ inside w s h = ⊎-elim (λ e. absurd (⊎-elim below above (decides-outside w .
 
   above : pos weight-limit <ℤ total w → ⊥
   above k = omega (arith, ints)
+
+-- a weight that is taken is not below 0, and keeps the total within its limit
+pub weight-taken : (t s : ℕ) (x : ℤ) → Ok s ≡ answered (weight-refusal t x) (t + natAbs x) → (pos 0 ≤ℤ x) × (s ≡ t + natAbs x) × (s ≤ weight-limit)
+weight-taken t s x e = by (ltZ x (pos 0)) (ltb weight-limit (t + natAbs x)) refl refl e where
+  by : (b k : Bool) → ltZ x (pos 0) ≡ b → ltb weight-limit (t + natAbs x) ≡ k → Ok s ≡ answered (cond (b || k) (Some Weights) None) (t + natAbs x) → (pos 0 ≤ℤ x) × (s ≡ t + natAbs x) × (s ≤ weight-limit)
+  by true k p q e = let z : _≡_ {A = ℕ} 0 1 = cc in absurd (omega arith)
+  by false true p q e = let z : _≡_ {A = ℕ} 0 1 = cc in absurd (omega arith)
+  by false false p q e = let same : s ≡ t + natAbs x = cc in (grind (arith, ints), same, omega (arith, ltb-false weight-limit (t + natAbs x) q))
+
+-- a weight that is refused after the first i puts them all outside
+pub weight-refused : (w : List ℤ) (i t : ℕ) (f : RuleFault) → i < length w → pos t ≡ total (take i w) → Err f ≡ answered (weight-refusal t (at w i)) (t + part w i) → (f ≡ Weights) × (weights-outside w ≡ true)
+weight-refused w i t f l e h = by (ltZ (at w i) (pos 0)) (ltb weight-limit (t + part w i)) refl refl h where
+  by : (b k : Bool) → ltZ (at w i) (pos 0) ≡ b → ltb weight-limit (t + part w i) ≡ k → Err f ≡ answered (cond (b || k) (Some Weights) None) (t + part w i) → (f ≡ Weights) × (weights-outside w ≡ true)
+  by true k p q h = (cc, decides-outside w .1 (inl (i, l, decides-ltZ (at w i) (pos 0) .0 p)))
+  by false true p q h =
+      let s : pos 0 ≤ℤ at w i = grind (arith, ints) in
+      (cc, outside-by-front w (i + 1) (t + part w i) (running-more w i t (part w i) l s refl e) (ltb-true weight-limit (t + part w i) q))
+  by false false p q h = let z : _≡_ {A = ℕ} 0 1 = cc in absurd (omega arith)
 
 -- what each check of the table leaves, where all let pass
 record Passed (a : ℤ) (w : List ℤ) (n : ℕ) : Type 0 where
@@ -65,7 +85,6 @@ record Passed (a : ℤ) (w : List ℤ) (n : ℕ) : Type 0 where
   room : length w ≤ n
 
 passed : (a : ℤ) (w : List ℤ) (n : ℕ) → refusal a w n ≡ None → Passed a w n
-unfolding refusal
 passed a w n e =
     record {
       weights-inside = grind (arith, tells);
@@ -75,7 +94,6 @@ passed a w n e =
     }
 
 none-refused : (a : ℤ) (w : List ℤ) (n : ℕ) → Passed a w n → refusal a w n ≡ None
-unfolding refusal
 none-refused a w n p = grind (arith, tells)
 
 zero-size : (a : ℤ) → natAbs a ≡ 0 → a ≡ pos 0

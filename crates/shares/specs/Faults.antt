@@ -12,7 +12,7 @@ use Rattle.std.specs.declared.result.Result.the-variants.{Ok, Err}
 use Rattle.shares.specs.declared.fault.Refusal.{Refusal}
 use Rattle.shares.specs.declared.fault.RuleFault.{RuleFault}
 use Rattle.shares.specs.declared.fault.RuleFault.the-variants.{Weights, Amount, NoWeight, Places}
-use Rattle.shares.specs.Weights.{amount-limit, total, weights-outside}
+use Rattle.shares.specs.Weights.{Split, amount-limit, total, weights-outside}
 
 -- a refusal of layer 4, which is the rules', at a place of zeros
 abbrev pub by-rule : ℕ → Refusal
@@ -25,6 +25,7 @@ told Amount = by-rule 10
 told NoWeight = by-rule 11
 told Places = by-rule 13
 
+-- an integer is 0
 abbrev pub is-zero : ℤ → Bool
 is-zero z = eqb (natAbs z) 0
 
@@ -43,7 +44,7 @@ first-met [] = None
 first-met (c ∷ cs) = cond (c .0) (Some (c .1)) (first-met cs)
 
 -- why a rule refuses to share a by w into n places, if it does
-unfoldable pub refusal : ℤ → List ℤ → ℕ → Option RuleFault
+abbrev pub refusal : ℤ → List ℤ → ℕ → Option RuleFault
 refusal a w n = first-met (refusals a w n)
 
 -- why the weights alone are refused, if they are
@@ -65,5 +66,5 @@ abbrev pub share-answer : ℤ → List ℤ → List ℤ → Result (Unit {0}) Ru
 share-answer a w places = answered (refusal a w (length places)) tt
 
 -- what these places hold afterwards
-abbrev pub shared : (ℤ → List ℤ → List ℤ) → ℤ → List ℤ → List ℤ → List ℤ
+abbrev pub shared : Split → ℤ → List ℤ → List ℤ → List ℤ
 shared split a w places = filled (refusal a w (length places)) (split a w) places

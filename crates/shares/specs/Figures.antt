@@ -39,9 +39,12 @@ alone = pos 1 ∷ []
 
 pub record Figures : Type 0 where
   -- 800,000 over four demands
-  pub demands-nearest : nearest (pos 800000) demands ≡ pos 142282 ∷ pos 193289 ∷ pos 206711 ∷ pos 257718 ∷ []
-  pub demands-largest-remainder : largest-remainder (pos 800000) demands ≡ pos 142282 ∷ pos 193289 ∷ pos 206711 ∷ pos 257718 ∷ []
-  pub demands-running-carry : running-carry (pos 800000) demands ≡ pos 142281 ∷ pos 193289 ∷ pos 206711 ∷ pos 257719 ∷ []
+  pub demands-nearest : nearest (pos 800000) demands
+      ≡ pos 142282 ∷ pos 193289 ∷ pos 206711 ∷ pos 257718 ∷ []
+  pub demands-largest-remainder : largest-remainder (pos 800000) demands
+      ≡ pos 142282 ∷ pos 193289 ∷ pos 206711 ∷ pos 257718 ∷ []
+  pub demands-running-carry : running-carry (pos 800000) demands
+      ≡ pos 142281 ∷ pos 193289 ∷ pos 206711 ∷ pos 257719 ∷ []
   -- one cent over two alike: a half goes up, to the lower participant, and on to the next
   pub cent-nearest : nearest (pos 1) two-alike ≡ pos 1 ∷ pos 1 ∷ []
   pub cent-largest-remainder : largest-remainder (pos 1) two-alike ≡ pos 1 ∷ pos 0 ∷ []
@@ -61,8 +64,12 @@ pub record Figures : Type 0 where
   pub nothing-running-carry : running-carry (pos 0) no-demand ≡ no-demand
   pub something-refused : refused (pos 1) no-demand ≡ Some 11
   -- the largest amount is shared, and a cent more is refused
-  pub largest-granted : refused (pos 100000000) alone ≡ None
-  pub largest-nearest : nearest (pos 100000000) alone ≡ pos 100000000 ∷ []
-  pub largest-largest-remainder : largest-remainder (pos 100000000) alone ≡ pos 100000000 ∷ []
-  pub largest-running-carry : running-carry (pos 100000000) alone ≡ pos 100000000 ∷ []
-  pub too-large-refused : refused (pos 100000001) alone ≡ Some 10
+  pub most-granted : refused (pos 100000000) alone ≡ None
+  pub most-nearest : nearest (pos 100000000) alone ≡ pos 100000000 ∷ []
+  pub most-largest-remainder : largest-remainder (pos 100000000) alone ≡ pos 100000000 ∷ []
+  pub most-running-carry : running-carry (pos 100000000) alone ≡ pos 100000000 ∷ []
+  pub more-refused : refused (pos 100000001) alone ≡ Some 10
+  -- the largest total is taken, one more is refused, and so is a weight below 0, even for too large an amount
+  pub heaviest-granted : refused (pos 1) (pos 39999999999 ∷ pos 1 ∷ []) ≡ None
+  pub heavier-refused : refused (pos 1) (pos 40000000000 ∷ pos 1 ∷ []) ≡ Some 7
+  pub negative-refused : refused (pos 100000001) (pos 2 ∷ negsuc 0 ∷ []) ≡ Some 7

@@ -8,8 +8,17 @@ use lib.ListN.{length, take}
 use lib.Signed.{_<ℤ_, _≤ℤ_}
 use Rattle.std.specs.Orderings.{Decides}
 use Rattle.std.specs.declared.option.Option.the-variants.{None}
-use Rattle.shares.specs.Weights.{weight-limit, amount-limit, at, total, None-below-zero, Some-below-zero, weights-outside}
-use Rattle.shares.specs.Faults.{refusal}
+use Rattle.shares.specs.Weights.{
+  Split,
+  weight-limit,
+  amount-limit,
+  at,
+  total,
+  None-below-zero,
+  Some-below-zero,
+  weights-outside,
+}
+use Rattle.shares.specs.Faults.{refusal, shared}
 
 -- a rule answers here, given places enough
 pub record Answers (a : ℤ) (w : List ℤ) : Type 0 where
@@ -33,19 +42,28 @@ pub record Lawful (a : ℤ) (w s : List ℤ) : Type 0 where
   pub no-weight-no-share : pos 0 <ℤ total w → (i : ℕ) → i < length w → at w i ≡ pos 0 → at s i ≡ pos 0
   pub all-zero : total w ≡ pos 0 → a ≡ pos 0 → (i : ℕ) → i < length w → at s i ≡ pos 0
 
+-- a rule's shares are lawful wherever it answers
+abbrev pub Fair : Split → Type 0
+Fair split = (a : ℤ) (w : List ℤ) → Answers a w → Lawful a w (split a w)
+
+-- an exact rule's shares add up to the amount wherever it answers and there is some weight
+abbrev pub Exact : Split → Type 0
+Exact split = (a : ℤ) (w : List ℤ) → Answers a w → pos 0 <ℤ total w → total (split a w) ≡ a
+
 -- what a call that is granted leaves in the places, by any rule
 pub record Shared-out (a : ℤ) (w places : List ℤ) : Type 0 where
   pub answers : Answers a w
   pub lawful : Lawful a w (take (length w) places)
   pub no-larger : (i : ℕ) → i < length w → natAbs (at places i) ≤ natAbs a
 
--- a rule's shares are lawful wherever it answers
-abbrev pub Fair : (ℤ → List ℤ → List ℤ) → Type 0
-Fair split = (a : ℤ) (w : List ℤ) → Answers a w → Lawful a w (split a w)
-
--- an exact rule's shares add up to the amount wherever it answers and there is some weight
-abbrev pub Exact : (ℤ → List ℤ → List ℤ) → Type 0
-Exact split = (a : ℤ) (w : List ℤ) → Answers a w → pos 0 <ℤ total w → total (split a w) ≡ a
+-- What the laws say of the places: any fair rule leaves lawful shares there, none larger than the amount,
+-- and with some weight those of an exact one add up to the amount.
+pub record Fills-lawfully : Type 0 where
+  pub fair : (split : Split) (a : ℤ) (w places : List ℤ) → Fair split → refusal a w (length places) ≡ None
+      → Shared-out a w (shared split a w places)
+  pub exact : (split : Split) (a : ℤ) (w places : List ℤ) → Fair split → Exact split
+      → refusal a w (length places) ≡ None → pos 0 <ℤ total w
+      → total (take (length w) (shared split a w places)) ≡ a
 
 -- What the refusals say: weights are refused just where one is below 0 or the total is above the limit,
 -- and a rule grants just where it answers and has places enough.

@@ -6,3 +6,4 @@ pub mod Nearest
 pub mod LargestRemainder
 pub mod RunningCarry
 pub mod Figures
+pub mod Workings

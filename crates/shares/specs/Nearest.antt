@@ -6,17 +6,17 @@ use lib.IntN.{ℤ, pos, natAbs, _*ℤ_}
 use lib.ListN.{length}
 use lib.Signed.{_<ℤ_, _≤ℤ_}
 use Rattle.shares.specs.Laws.{Answers, off}
-use Rattle.shares.specs.Sizes.{part, whole, shares-by}
-use Rattle.shares.specs.Weights.{at, total}
+use Rattle.shares.specs.Sizes.{Sizing, part, whole, shares-by}
+use Rattle.shares.specs.Weights.{Split, at, total}
 
 -- n ÷ d and a half, rounded down: the nearest whole number, halves up
 abbrev pub rounded : ℕ → ℕ → ℕ
 rounded n d = (2 * n + d) / (2 * d)
 
-abbrev pub nearest-size : ℕ → List ℤ → ℕ → ℕ
+abbrev pub nearest-size : Sizing
 nearest-size a w i = rounded (a * part w i) (whole w)
 
-unfoldable pub nearest : ℤ → List ℤ → List ℤ
+unfoldable pub nearest : Split
 nearest = shares-by nearest-size
 
 -- Nearest in the subject's words: no share is more than half a cent from the exact part, and halves go away from zero.

@@ -14,6 +14,10 @@ weight-limit = 40_000_000_000
 abbrev pub amount-limit : ℕ
 amount-limit = 100_000_000
 
+-- what a rule makes of an amount and weights: one share for each weight
+abbrev pub Split : Type 0
+Split = ℤ → List ℤ → List ℤ
+
 -- what stands at place i; the lowest participant has place 0
 abbrev pub at : List ℤ → ℕ → ℤ
 at xs i = getD xs i (pos 0)

@@ -4,7 +4,8 @@
 ghost use mathlib.Core.Path.{_≡_};
 ghost use Prim.Native.Nat.{_*_, _/_, _%_, _^_, _<_, _≤_};
 ghost use Rattle.shares.specs.Nearest.{rounded};
-ghost use Rattle.shares.specs.Sizes.{Within, signed};
+ghost use Rattle.shares.specs.Sizes.{signed};
+ghost use Rattle.shares.specs.Workings.{Within};
 
 #[derive(Clone, Copy)]
 pub struct Division {
@@ -43,8 +44,7 @@ impl Division {
     // The part to the nearest cent, halves up.
     pub(crate) fn nearest(self, part: u64) -> u64
         requires { ⌜ Within self part ⌝ }
-        ensures value { λ r. ⌜ r ≡ rounded (self .size * part) (self .total) ⌝ }
-        ensures within { λ r. ⌜ r ≤ self .size ⌝ }
+        ensures { λ r. ⌜ r ≡ rounded (self .size * part) (self .total) ⌝ }
     {
         if self.total == 0 {
             0

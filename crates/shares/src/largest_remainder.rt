@@ -9,22 +9,13 @@ use crate::weights::admit;
 use std::cmp::Ordering;
 ghost use mathlib.Core.Path.{_≡_};
 ghost use mathlib.Core.List.{map};
-ghost use Prim.Native.Nat.{_≤_};
+ghost use Prim.Native.Nat.{_-_, _≤_, min};
 ghost use lib.IntN.{pos};
 ghost use lib.ListN.{length};
 ghost use Rattle.std.specs.shelf.Lists.{sumBy};
-ghost use Rattle.shares.specs.LargestRemainder.{
-  Edge,
-  above,
-  dealt,
-  held,
-  largest-remainder,
-  remainder-size,
-  remainders,
-  rounded-down,
-  ties-left,
-};
-ghost use Rattle.shares.specs.Sizes.{Divides, sharing};
+ghost use Rattle.shares.specs.LargestRemainder.{above, largest-remainder, remainder-size, remainders, rounded-down};
+ghost use Rattle.shares.specs.Sizes.{sharing};
+ghost use Rattle.shares.specs.Workings.{dealt, Divides, Edge, held, ties-left};
 
 #[derive(Clone, Copy)]
 pub struct LargestRemainder;
@@ -77,6 +68,16 @@ fn find_edge(remainders: &[i64], cents: u64, most: u64) -> u64
     low
 }
 
+// One of what is left, while any is.
+fn take_one(left: &mut u64) -> u64
+    ensures one { λ r. ⌜ r ≡ min (now (left .entry)) 1 ⌝ }
+    ensures rest { λ _. ⌜ now (left .exit) ≡ now (left .entry) - 1 ⌝ }
+{
+    let one = (*left).min(1);
+    *left -= one;
+    one
+}
+
 // A cent for a remainder above the edge, and for one at the edge while ties are left.
 fn deal(edge: u64, ties: &mut u64, remainder: u64) -> u64
     ensures cent { λ r. ⌜ r ≡ dealt edge (now (ties .entry)) remainder ⌝ }
@@ -84,12 +85,8 @@ fn deal(edge: u64, ties: &mut u64, remainder: u64) -> u64
 {
     match remainder.cmp(&edge) {
         Ordering::Greater => 1,
+        Ordering::Equal => take_one(ties),
         Ordering::Less => 0,
-        Ordering::Equal => {
-            let cent = (*ties).min(1);
-            *ties -= cent;
-            cent
-        }
     }
 }
 

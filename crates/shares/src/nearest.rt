@@ -3,7 +3,7 @@
 use crate::fault::RuleFault;
 use crate::rule::ShareRule;
 use crate::weights::admit;
-ghost use Rattle.shares.specs.Nearest.{nearest, Rounds-to-nearest};
+ghost use Rattle.shares.specs.Nearest.{nearest};
 
 #[derive(Clone, Copy)]
 pub struct Nearest;
@@ -20,8 +20,3 @@ pub impl ShareRule for Nearest as NearestRule {
         Ok(())
     }
 }
-
-// Nearest rounds to the nearest cent: the definition in the subject's words.
-pub fn nearest_rounds()
-    ensures { λ _. ⌜ Rounds-to-nearest ⌝ }
-{}

@@ -3,15 +3,12 @@
 // answers, and nowhere else.
 use crate::fault::RuleFault;
 ghost use mathlib.Core.Path.{_≡_};
-ghost use mathlib.Core.Bool.{true};
-ghost use mathlib.Core.List.{List};
-ghost use lib.IntN.{ℤ};
-ghost use Rattle.std.specs.Results.{isOk};
 ghost use Rattle.shares.specs.Faults.{share-answer, shared};
-ghost use Rattle.shares.specs.Laws.{Fair, Exact, Shared-out};
+ghost use Rattle.shares.specs.Laws.{Fair, Exact};
+ghost use Rattle.shares.specs.Weights.{Split};
 
 pub trait ShareRule {
-    ghost split: { Self → ℤ → List ℤ → List ℤ };
+    ghost split: { Self → Split };
 
     law fair: { (rule : Self) → Fair (split rule) };
 
@@ -29,19 +26,4 @@ pub trait ExactRule: ShareRule {
     fn adds_up(&self)
         ensures { λ _. ⌜ Exact (Self·ShareRule .split (now (self .entry))) ⌝ }
     {}
-}
-
-// Shares by any rule: what is written is lawful, and no share is larger than the amount.
-pub fn share_by_rule<R: ShareRule>(
-    rule: &R,
-    amount: i64,
-    weights: &[i64],
-    shares: &mut [i64],
-) -> Result<(), RuleFault>
-    ensures answer { λ r. ⌜ r ≡ share-answer amount (now (weights .entry)) (now (shares .entry)) ⌝ }
-    ensures places { λ _. ⌜ now (shares .exit)
-        ≡ shared (R·ShareRule .split (now (rule .entry))) amount (now (weights .entry)) (now (shares .entry)) ⌝ }
-    ensures lawful { λ r. ⌜ (isOk r ≡ true → Shared-out amount (now (weights .entry)) (now (shares .exit))) ⌝ }
-{
-    rule.share(amount, weights, shares)
 }

@@ -10,9 +10,13 @@ use Rattle.text.specs.declared.word.Line.{Line}
 use Rattle.text.specs.declared.word.Lines.{Lines}
 use Rattle.text.specs.declared.word.Words.{Words}
 
+-- the part of a line whose words are still to come
+abbrev pub to-come : Words → List ℕ
+to-come w = now (w .rest)
+
 pub record Takes-word (before : Words) (r : Option (RefT (List ℕ))) (after : Words) : Type 0 where
-  pub word : mapped now r ≡ next-word (now (before .rest))
-  pub rest : now (after .rest) ≡ after-word (now (before .rest))
+  pub word : mapped now r ≡ next-word (to-come before)
+  pub rest : to-come after ≡ after-word (to-come before)
 
 -- lines are numbered from 1 on, as far as 64 bits go
 pub record Takes-line (before : Lines) (r : Option Line) (after : Lines) : Type 0 where

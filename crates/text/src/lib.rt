@@ -11,3 +11,4 @@ pub use word::Lines;
 pub use word::LinesIterator;
 pub use word::Words;
 pub use word::WordsIterator;
+pub use word::is_spelt;

@@ -8,7 +8,8 @@ ghost use Prim.Native.Nat.{ℕ, _≤_};
 ghost use lib.ListN.{length, drop};
 ghost use Rattle.std.specs.Options.{mapped};
 ghost use Rattle.std.specs.shelf.Lists.{leading};
-ghost use Rattle.text.specs.Taking.{Takes-word, Takes-line};
+ghost use Rattle.std.specs.shelf.Text.{sameBytes};
+ghost use Rattle.text.specs.Taking.{Takes-word, Takes-line, to-come};
 ghost use Rattle.text.specs.Words.{blank, in-word, in-line, next-word, after-word, next-line, after-line};
 
 // A class of bytes.
@@ -74,6 +75,13 @@ pub fn without_first(text: &[u8]) -> &[u8]
     }
 }
 
+// Whether a word is spelt so.
+pub fn is_spelt(word: &[u8], text: &str) -> bool
+    ensures { λ r. ⌜ r ≡ sameBytes (now (word .entry)) (now (text .entry)) ⌝ }
+{
+    word == text.as_bytes()
+}
+
 // The words of one line that are still to come.
 #[derive(Clone, Copy)]
 pub struct Words<'a> {
@@ -82,14 +90,14 @@ pub struct Words<'a> {
 
 impl<'a> Words<'a> {
     pub fn of(line: &'a [u8]) -> Words<'a>
-        ensures { λ r. ⌜ now (r .rest) ≡ now (line .entry) ⌝ }
+        ensures { λ r. ⌜ to-come r ≡ now (line .entry) ⌝ }
     {
         Words { rest: line }
     }
 
     pub fn next_word(&mut self) -> Option<&'a [u8]>
-        ensures word { λ r. ⌜ mapped now r ≡ next-word (now (now (self .entry) .rest)) ⌝ }
-        ensures rest { λ _. ⌜ now (now (self .exit) .rest) ≡ after-word (now (now (self .entry) .rest)) ⌝ }
+        ensures word { λ r. ⌜ mapped now r ≡ next-word (to-come (now (self .entry))) ⌝ }
+        ensures rest { λ _. ⌜ to-come (now (self .exit)) ≡ after-word (to-come (now (self .entry))) ⌝ }
     {
         let (_, text) = self.rest.split_at(leading_bytes::<BlankClass>(self.rest));
         let (word, rest) = text.split_at(leading_bytes::<InWordClass>(text));

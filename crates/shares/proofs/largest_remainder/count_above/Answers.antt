@@ -4,14 +4,15 @@ use borrow.Author.Needs.{needs}
 use native.Mathlib.Omega.{arith}
 use lib.Dec.{ltb}
 use lib.IntN.{pos, natAbs}
-use lib.ListN.{length, take, getD}
+use lib.ListN.{length, getD}
 use mir.Val.{SFits}
 use mir.Syntax.{w64}
 use Rattle.std.proofs.shelf.Lists.{take-all, getD-map, length-map}
 use Rattle.std.proofs.shelf.Sums.{countBy-more-yes, countBy-more-no}
 use Rattle.std.proofs.shelf.Tests.{lt-ltb, le-ltb}
-use Rattle.shares.specs.LargestRemainder.{above, held}
+use Rattle.shares.specs.LargestRemainder.{above}
 use Rattle.shares.specs.Weights.{at}
+use Rattle.shares.specs.Workings.{held}
 use Rattle.shares.proofs.Filling.{part-at}
 use Rattle.shares.proofs.largest_remainder.count_above.Needs as need
 use Rattle.shares.proofs.largest_remainder.count_above.Needs.{then-unsigned-abs-edge, else-unsigned-abs-edge}

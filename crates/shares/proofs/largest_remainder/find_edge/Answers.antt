@@ -1,7 +1,7 @@
 use native.Mathlib.Omega.{arith}
 use lib.IntN.{natAbs}
 use Rattle.std.proofs.shelf.Lists.{length-map}
-use Rattle.shares.specs.LargestRemainder.{held}
+use Rattle.shares.specs.Workings.{held}
 use Rattle.shares.proofs.Ranks.{all-from-zero}
 use Rattle.shares.proofs.largest_remainder.find_edge.Needs as need
 

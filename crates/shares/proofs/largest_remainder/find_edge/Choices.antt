@@ -1,5 +1,6 @@
 use Prim.Native.Nat.{_≤_, _-_}
-use Rattle.shares.specs.LargestRemainder.{above, held}
+use Rattle.shares.specs.LargestRemainder.{above}
+use Rattle.shares.specs.Workings.{held}
 use Rattle.shares.proofs.Ranks.{from}
 use Rattle.shares.proofs.largest_remainder.find_edge.Given as given
 

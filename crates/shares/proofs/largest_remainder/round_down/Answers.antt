@@ -1,10 +1,10 @@
 use mathlib.Core.Path.{_≡_, sym, ap, _∙_}
-use mathlib.Core.List.{map, _++_}
-use Prim.Native.Nat.{_+_, _*_, _/_, _%_, _<_, _≤_}
+use mathlib.Core.List.{map}
+use Prim.Native.Nat.{_+_, _*_, _/_, _%_, _<_}
 use borrow.Author.Needs.{needs}
 use native.Mathlib.Omega.{arith}
-use lib.IntN.{ℤ, pos, natAbs}
-use lib.ListN.{length, take, drop, getD, set}
+use lib.IntN.{pos}
+use lib.ListN.{length, take, set}
 use mir.Val.{SFits, toZ}
 use mir.Syntax.{w64}
 use Rattle.std.specs.shelf.Lists.{sumBy}
@@ -12,8 +12,9 @@ use Rattle.std.proofs.shelf.Lists.{take-all, getD-map, length-map}
 use Rattle.std.proofs.shelf.Signed.{toZ-pos}
 use Rattle.std.proofs.shelf.Sums.{sumBy-more, sumBy-take-le}
 use Rattle.shares.specs.LargestRemainder.{rounded-down, remainder, remainders}
-use Rattle.shares.specs.Sizes.{Within, part}
+use Rattle.shares.specs.Sizes.{part}
 use Rattle.shares.specs.Weights.{at}
+use Rattle.shares.specs.Workings.{Within}
 use Rattle.shares.proofs.Filling.{part-at, within, fill-more, filled-up}
 use Rattle.shares.proofs.RemainderLaws.{rounded-down-sum-le}
 use Rattle.shares.proofs.Totals.{part-le}

@@ -1,17 +1,16 @@
 use mathlib.Core.Path.{_≡_, refl, sym, ap, _∙_, subst}
-use mathlib.Core.List.{map}
 use Prim.Native.Nat.{_+_, _-_, _*_, _/_, _<_, _≤_}
 use borrow.Author.Needs.{needs}
 use native.Mathlib.Omega.{arith}
-use lib.IntN.{ℤ, pos, natAbs}
-use lib.ListN.{length, take, getD}
+use lib.IntN.{pos, natAbs}
+use lib.ListN.{length, getD}
 use mir.Val.{SFits}
 use mir.Syntax.{w64}
-use Rattle.std.specs.shelf.Lists.{sumBy}
 use Rattle.std.proofs.shelf.Lists.{getD-map, length-map}
-use Rattle.shares.specs.LargestRemainder.{rounded-down, remainder, remainders, missing, above, cent, dealt, ties-left, remainder-size, Edge, held}
-use Rattle.shares.specs.Sizes.{Within, part, sharing}
+use Rattle.shares.specs.LargestRemainder.{rounded-down, remainder, remainders, missing, above, cent, remainder-size}
+use Rattle.shares.specs.Sizes.{part, sharing}
 use Rattle.shares.specs.Weights.{at}
+use Rattle.shares.specs.Workings.{dealt, Edge, held, ties-left}
 use Rattle.shares.proofs.Filling.{part-at, within, length-sharing, unfilled-at, filled-more, filled-up}
 use Rattle.shares.proofs.Ranks as ranks
 use Rattle.shares.proofs.RemainderLaws.{rounded-down-sum-le, missing-le, none-above-whole, held-remainders}

@@ -1,12 +1,11 @@
 use mathlib.Core.Path.{refl}
-use Rattle.shares.specs.Faults.{refusal}
 use Rattle.shares.specs.LargestRemainder.{largest-remainder}
 use Rattle.shares.specs.Nearest.{nearest}
 use Rattle.shares.specs.RunningCarry.{running-carry}
-use Rattle.shares.proofs.figures.figures_stand.Needs as need
+use Rattle.shares.proofs.theorems.figures_stand.Needs as need
 
 pub returns : need.returns
-unfolding refusal nearest largest-remainder running-carry
+unfolding nearest largest-remainder running-carry
 returns c = record {
   demands-nearest = refl;
   demands-largest-remainder = refl;
@@ -25,9 +24,12 @@ returns c = record {
   nothing-largest-remainder = refl;
   nothing-running-carry = refl;
   something-refused = refl;
-  largest-granted = refl;
-  largest-nearest = refl;
-  largest-largest-remainder = refl;
-  largest-running-carry = refl;
-  too-large-refused = refl;
+  most-granted = refl;
+  most-nearest = refl;
+  most-largest-remainder = refl;
+  most-running-carry = refl;
+  more-refused = refl;
+  heaviest-granted = refl;
+  heavier-refused = refl;
+  negative-refused = refl;
 }
