@@ -59,8 +59,8 @@ whole-take-le w i s = omega (arith, whole-is (take i w) (none-below-take w i s),
 pub part-le : (w : List ℤ) (i : ℕ) → None-below-zero w → i < length w → part w i ≤ whole w
 part-le w i s l = omega (arith, whole-is w s, getD-le-sumBy natAbs w i (pos 0) l)
 
--- a running total of weights, one place on
-pub running-more : (w : List ℤ) (i t n : ℕ) → i < length w → pos 0 ≤ℤ at w i → n ≡ part w i → pos t ≡ total (take i w) → pos (t + n) ≡ total (take (i + 1) w)
-running-more w i t n l h e p =
+-- the total of the first weights, one weight on
+pub total-more : (w : List ℤ) (i t : ℕ) → i < length w → pos 0 ≤ℤ at w i → pos t ≡ total (take i w) → pos (t + part w i) ≡ total (take (i + 1) w)
+total-more w i t l h p =
     let m : total (take (i + 1) w) ≡ total (take i w) +ℤ at w i = ap total (take-more w i (pos 0) l) ∙ total-push (take i w) (at w i) in
     omega (arith, ints)

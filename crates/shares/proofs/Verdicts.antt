@@ -24,7 +24,7 @@ use Rattle.shares.specs.Laws.{Answers, Refuses-rightly}
 use Rattle.shares.specs.Sizes.{part}
 use Rattle.shares.specs.Weights.{weight-limit, amount-limit, at, total, None-below-zero, Some-below-zero, has-negative, weights-outside}
 use Rattle.shares.specs.Workings.{weight-refusal}
-use Rattle.shares.proofs.Totals.{total-is, cases-total, none-below-take, running-more}
+use Rattle.shares.proofs.Totals.{total-is, cases-total, none-below-take, total-more}
 
 decides-ltZ : (x y : ℤ) → Decides (ltZ x y) (x <ℤ y)
 decides-ltZ x y = (λ e. grind (arith, ints), λ h. grind (arith, ints))
@@ -74,7 +74,7 @@ weight-refused w i t f l e h = by (ltZ (at w i) (pos 0)) (ltb weight-limit (t + 
   by true k p q h = (cc, decides-outside w .1 (inl (i, l, decides-ltZ (at w i) (pos 0) .0 p)))
   by false true p q h =
       let s : pos 0 ≤ℤ at w i = grind (arith, ints) in
-      (cc, outside-by-front w (i + 1) (t + part w i) (running-more w i t (part w i) l s refl e) (ltb-true weight-limit (t + part w i) q))
+      (cc, outside-by-front w (i + 1) (t + part w i) (total-more w i t l s e) (ltb-true weight-limit (t + part w i) q))
   by false false p q h = let z : _≡_ {A = ℕ} 0 1 = cc in absurd (omega arith)
 
 -- what each check of the table leaves, where all let pass

@@ -1,4 +1,4 @@
-use mathlib.Core.Path.{_≡_, refl, sym, ap, _∙_}
+use mathlib.Core.Path.{_≡_, sym, ap, _∙_}
 use mathlib.Core.Bool.{cond}
 use borrow.Author.Count.{below-more}
 use borrow.Author.Needs.{needs}
@@ -17,7 +17,7 @@ use Rattle.shares.specs.declared.fault.RuleFault.the-variants.{Weights}
 use Rattle.shares.specs.Faults.{answered}
 use Rattle.shares.specs.Sizes.{whole}
 use Rattle.shares.specs.Weights.{weight-limit, at, total, None-below-zero}
-use Rattle.shares.proofs.Totals.{running-more}
+use Rattle.shares.proofs.Totals.{total-more}
 use Rattle.shares.proofs.Verdicts.{inside, weight-taken, weight-refused}
 use Rattle.shares.proofs.weights.total_weight.Needs as need
 
@@ -35,7 +35,7 @@ loop-weight-again c =
     let f : SFits w64 (at w (c .loop-weight .weight-index)) = search needs in
     let t = weight-taken _ _ _ (simp toZ-ofZ at (c .in-Continue-total .ensures tt)) in (
       below-more _ _ (c .loop-weight .inv .0) (t .0),
-      ap pos (t .1) ∙ running-more w _ _ _ (c .loop-weight-test .taken) (t .0) refl (c .loop-weight .inv .1),
+      ap pos (t .1) ∙ total-more w _ _ (c .loop-weight-test .taken) (t .0) (c .loop-weight .inv .1),
       t .2,
     )
 
