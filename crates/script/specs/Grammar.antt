@@ -2,6 +2,7 @@
 use mathlib.Core.Bool.{cond}
 use mathlib.Core.List.{List}
 use Prim.Native.Nat.{ℕ}
+use lib.IntN.{ℤ}
 use Rattle.std.specs.Options.{isSome, mapped}
 use Rattle.std.specs.declared.option.Option.{Option}
 use Rattle.std.specs.declared.option.Option.the-variants.{None, Some}
@@ -13,6 +14,7 @@ use Rattle.script.specs.declared.command.Call.{Call as Calls}
 use Rattle.script.specs.declared.command.Call.the-variants as call
 use Rattle.script.specs.declared.command.Command.{Command}
 use Rattle.script.specs.declared.command.Command.the-variants.{Open, Call, Ask, Share}
+use Rattle.script.specs.declared.command.Key.{Key}
 use Rattle.script.specs.declared.command.Opening.{Opening}
 use Rattle.script.specs.declared.command.Places.{Places}
 use Rattle.script.specs.declared.command.Question.{Question}
@@ -36,19 +38,25 @@ opening t =
     given (rule (after-three t)) (λ r. given (places (after-four t)) (λ l.
     Some (record { year = y; month = m; participants = n; rule = r; places = l }))))))
 
+-- the last argument of a line
+abbrev pub last-unsigned : List ℕ → Option ℕ
+last-unsigned t = given (unsigned t) (λ n. given (nothing (after-word t)) (λ _. Some n))
+
 -- CODE PARTICIPANT PAGE INTERVAL CENTS
+abbrev pub entry : List ℕ → Option (Key × ℤ)
+entry t = given (key t) (λ k. given (signed (after-four t)) (λ x. given (nothing (after-five t)) (λ _. Some (k, x))))
+
 abbrev pub post : List ℕ → Option Calls
-post t = given (key t) (λ k. given (signed (after-four t)) (λ x. given (nothing (after-five t)) (λ _. Some (call.Post k x))))
+post t = given (entry t) (λ e. Some (call.Post (e .0) (e .1)))
+
+abbrev pub adjust : List ℕ → Option Calls
+adjust t = given (entry t) (λ e. Some (call.Adjust (e .0) (e .1)))
 
 -- PARTICIPANT PAGE INTERVAL KWH
 abbrev pub meter : List ℕ → Option Calls
 meter t =
     given (unsigned t) (λ p. given (unsigned (after-word t)) (λ g. given (unsigned (after-two t)) (λ i.
     given (signed (after-three t)) (λ x. given (nothing (after-four t)) (λ _. Some (call.Meter p g i x))))))
-
--- CODE PARTICIPANT PAGE INTERVAL CENTS
-abbrev pub adjust : List ℕ → Option Calls
-adjust t = given (key t) (λ k. given (signed (after-four t)) (λ x. given (nothing (after-five t)) (λ _. Some (call.Adjust k x))))
 
 -- CODE PAGE INTERVAL [PLACES], 32 where they are left out
 abbrev pub allocate : List ℕ → Option Calls
@@ -58,7 +66,7 @@ allocate t =
 
 -- PAGE
 abbrev pub strike : List ℕ → Option Calls
-strike t = given (unsigned t) (λ g. given (nothing (after-word t)) (λ _. Some (call.Strike g)))
+strike t = given (last-unsigned t) (λ g. Some (call.Strike g))
 
 -- PAGE [PLACES], 32 where they are left out
 abbrev pub allot : List ℕ → Option Calls
@@ -68,7 +76,7 @@ allot t =
 
 -- PAGE
 abbrev pub withdraw : List ℕ → Option Calls
-withdraw t = given (unsigned t) (λ g. given (nothing (after-word t)) (λ _. Some (call.Withdraw g)))
+withdraw t = given (last-unsigned t) (λ g. Some (call.Withdraw g))
 
 -- system|adjustment CODE PARTICIPANT PAGE INTERVAL
 abbrev pub subtotal : List ℕ → Option Question
@@ -79,33 +87,33 @@ subtotal t =
 abbrev pub interval : List ℕ → Option Question
 interval t = given (key t) (λ k. given (nothing (after-four t)) (λ _. Some (question.Interval k)))
 
+-- PARTICIPANT PAGE
+abbrev pub participant-and-page : List ℕ → Option (ℕ × ℕ)
+participant-and-page t = given (unsigned t) (λ p. given (last-unsigned (after-word t)) (λ g. Some (p, g)))
+
+-- what is asked about, then PARTICIPANT PAGE
+abbrev pub on-page : List ℕ → Option (ℕ × (ℕ × ℕ))
+on-page t = given (unsigned t) (λ n. given (participant-and-page (after-word t)) (λ e. Some (n, e)))
+
 -- CODE PARTICIPANT PAGE
 abbrev pub code : List ℕ → Option Question
-code t =
-    given (unsigned t) (λ c. given (unsigned (after-word t)) (λ p. given (unsigned (after-two t)) (λ g.
-    given (nothing (after-three t)) (λ _. Some (question.Code c p g)))))
+code t = given (on-page t) (λ e. Some (question.Code (e .0) (e .1 .0) (e .1 .1)))
 
 -- GROUP PARTICIPANT PAGE
 abbrev pub group : List ℕ → Option Question
-group t =
-    given (unsigned t) (λ n. given (unsigned (after-word t)) (λ p. given (unsigned (after-two t)) (λ g.
-    given (nothing (after-three t)) (λ _. Some (question.Group n p g)))))
+group t = given (on-page t) (λ e. Some (question.Group (e .0) (e .1 .0) (e .1 .1)))
 
 -- PARENT PARTICIPANT PAGE
 abbrev pub parent : List ℕ → Option Question
-parent t =
-    given (unsigned t) (λ n. given (unsigned (after-word t)) (λ p. given (unsigned (after-two t)) (λ g.
-    given (nothing (after-three t)) (λ _. Some (question.Parent n p g)))))
+parent t = given (on-page t) (λ e. Some (question.Parent (e .0) (e .1 .0) (e .1 .1)))
 
 -- PARTICIPANT PAGE
 abbrev pub settlement : List ℕ → Option Question
-settlement t =
-    given (unsigned t) (λ p. given (unsigned (after-word t)) (λ g. given (nothing (after-two t)) (λ _.
-    Some (question.Settlement p g))))
+settlement t = given (participant-and-page t) (λ e. Some (question.Settlement (e .0) (e .1)))
 
 -- PARTICIPANT
 abbrev pub month : List ℕ → Option Question
-month t = given (unsigned t) (λ p. given (nothing (after-word t)) (λ _. Some (question.Month p)))
+month t = given (last-unsigned t) (λ p. Some (question.Month p))
 
 abbrev pub balance : List ℕ → Option Question
 balance t = given (nothing t) (λ _. Some question.Balance)

@@ -1,7 +1,8 @@
 // The grammar of a script: what each command wants after its name, and the command of a whole line.
 ghost use mathlib.Core.Path.{_≡_};
 ghost use Rattle.std.specs.Results.{okPart};
-ghost use Rattle.script.specs.Grammar.{places, opening, post, meter, adjust, allocate, strike, allot, withdraw};
+ghost use Rattle.script.specs.Grammar.{places, opening, last-unsigned, entry, participant-and-page, on-page};
+ghost use Rattle.script.specs.Grammar.{post, meter, adjust, allocate, strike, allot, withdraw};
 ghost use Rattle.script.specs.Grammar.{subtotal, interval, code, group, parent, settlement, month, balance, share};
 ghost use Rattle.script.specs.Grammar.{arguments-of, understood};
 ghost use Rattle.script.specs.Readings.{ahead, after-three};
@@ -9,6 +10,7 @@ ghost use Rattle.text.specs.Taking.{to-come};
 use crate::arguments::Arguments;
 use crate::command::Call;
 use crate::command::Command;
+use crate::command::Key;
 use crate::command::Opening;
 use crate::command::Places;
 use crate::command::Question;
@@ -58,12 +60,28 @@ impl<'a> Arguments<'a> {
         })
     }
 
-    fn post(&mut self) -> Option<Call>
-        ensures { λ r. ⌜ r ≡ post (ahead (now (self .entry))) ⌝ }
+    // The last argument of a line.
+    fn last_unsigned(&mut self, argument: Argument) -> Option<u32>
+        ensures { λ r. ⌜ r ≡ last-unsigned (ahead (now (self .entry))) ⌝ }
+    {
+        let number = self.unsigned(argument)?;
+        self.end()?;
+        Some(number)
+    }
+
+    fn entry(&mut self) -> Option<(Key, i64)>
+        ensures { λ r. ⌜ r ≡ entry (ahead (now (self .entry))) ⌝ }
     {
         let key = self.key()?;
         let cents = self.signed(Argument::Cents)?;
         self.end()?;
+        Some((key, cents))
+    }
+
+    fn post(&mut self) -> Option<Call>
+        ensures { λ r. ⌜ r ≡ post (ahead (now (self .entry))) ⌝ }
+    {
+        let (key, cents) = self.entry()?;
         Some(Call::Post { key, cents })
     }
 
@@ -86,9 +104,7 @@ impl<'a> Arguments<'a> {
     fn adjust(&mut self) -> Option<Call>
         ensures { λ r. ⌜ r ≡ adjust (ahead (now (self .entry))) ⌝ }
     {
-        let key = self.key()?;
-        let cents = self.signed(Argument::Cents)?;
-        self.end()?;
+        let (key, cents) = self.entry()?;
         Some(Call::Adjust { key, cents })
     }
 
@@ -111,8 +127,7 @@ impl<'a> Arguments<'a> {
     fn strike(&mut self) -> Option<Call>
         ensures { λ r. ⌜ r ≡ strike (ahead (now (self .entry))) ⌝ }
     {
-        let page = self.unsigned(Argument::Page)?;
-        self.end()?;
+        let page = self.last_unsigned(Argument::Page)?;
         Some(Call::Strike { page })
     }
 
@@ -128,8 +143,7 @@ impl<'a> Arguments<'a> {
     fn withdraw(&mut self) -> Option<Call>
         ensures { λ r. ⌜ r ≡ withdraw (ahead (now (self .entry))) ⌝ }
     {
-        let page = self.unsigned(Argument::Page)?;
-        self.end()?;
+        let page = self.last_unsigned(Argument::Page)?;
         Some(Call::Withdraw { page })
     }
 
@@ -150,13 +164,27 @@ impl<'a> Arguments<'a> {
         Some(Question::Interval { key })
     }
 
+    fn participant_and_page(&mut self) -> Option<(u32, u32)>
+        ensures { λ r. ⌜ r ≡ participant-and-page (ahead (now (self .entry))) ⌝ }
+    {
+        let participant = self.unsigned(Argument::Participant)?;
+        let page = self.last_unsigned(Argument::Page)?;
+        Some((participant, page))
+    }
+
+    // What is asked about, then a participant and a page.
+    fn on_page(&mut self, argument: Argument) -> Option<(u32, (u32, u32))>
+        ensures { λ r. ⌜ r ≡ on-page (ahead (now (self .entry))) ⌝ }
+    {
+        let number = self.unsigned(argument)?;
+        let place = self.participant_and_page()?;
+        Some((number, place))
+    }
+
     fn code(&mut self) -> Option<Question>
         ensures { λ r. ⌜ r ≡ code (ahead (now (self .entry))) ⌝ }
     {
-        let code = self.unsigned(Argument::Code)?;
-        let participant = self.unsigned(Argument::Participant)?;
-        let page = self.unsigned(Argument::Page)?;
-        self.end()?;
+        let (code, (participant, page)) = self.on_page(Argument::Code)?;
         Some(Question::Code {
             code,
             participant,
@@ -167,10 +195,7 @@ impl<'a> Arguments<'a> {
     fn group(&mut self) -> Option<Question>
         ensures { λ r. ⌜ r ≡ group (ahead (now (self .entry))) ⌝ }
     {
-        let group = self.unsigned(Argument::Group)?;
-        let participant = self.unsigned(Argument::Participant)?;
-        let page = self.unsigned(Argument::Page)?;
-        self.end()?;
+        let (group, (participant, page)) = self.on_page(Argument::Group)?;
         Some(Question::Group {
             group,
             participant,
@@ -181,10 +206,7 @@ impl<'a> Arguments<'a> {
     fn parent(&mut self) -> Option<Question>
         ensures { λ r. ⌜ r ≡ parent (ahead (now (self .entry))) ⌝ }
     {
-        let parent = self.unsigned(Argument::Parent)?;
-        let participant = self.unsigned(Argument::Participant)?;
-        let page = self.unsigned(Argument::Page)?;
-        self.end()?;
+        let (parent, (participant, page)) = self.on_page(Argument::Parent)?;
         Some(Question::Parent {
             parent,
             participant,
@@ -195,17 +217,14 @@ impl<'a> Arguments<'a> {
     fn settlement(&mut self) -> Option<Question>
         ensures { λ r. ⌜ r ≡ settlement (ahead (now (self .entry))) ⌝ }
     {
-        let participant = self.unsigned(Argument::Participant)?;
-        let page = self.unsigned(Argument::Page)?;
-        self.end()?;
+        let (participant, page) = self.participant_and_page()?;
         Some(Question::Settlement { participant, page })
     }
 
     fn month(&mut self) -> Option<Question>
         ensures { λ r. ⌜ r ≡ month (ahead (now (self .entry))) ⌝ }
     {
-        let participant = self.unsigned(Argument::Participant)?;
-        self.end()?;
+        let participant = self.last_unsigned(Argument::Participant)?;
         Some(Question::Month { participant })
     }
 

@@ -29,19 +29,33 @@ pub numeral-read : (most : ℕ) (w : List ℕ) → 0 < length w → numeral most
 numeral-read most w some = rw (lt-ltb 0 (length w) some) (sym (read-after-value most 0 w))
 
 -- with i bytes read as n, the byte at i and those after it give the number
-pub numeral-from : (most n i : ℕ) (w : List ℕ) → i < length w → read-after most n (drop i w) ≡ read-after most 0 w → numeral most w ≡ read-after most n (getD w i 0 ∷ drop (i + 1) w)
+numeral-from : (most n i : ℕ) (w : List ℕ) → i < length w → read-after most n (drop i w) ≡ read-after most 0 w → numeral most w ≡ read-after most n (getD w i 0 ∷ drop (i + 1) w)
 numeral-from most n i w h e = numeral-read most w (omega arith) ∙ (sym e ∙ ap (read-after most n) (drop-more w i 0 h))
 
--- a byte that is no digit ends it
-pub read-after-other : (most n c : ℕ) (cs : List ℕ) → digit c ≡ false → read-after most n (c ∷ cs) ≡ None
-read-after-other most n c cs d = rw d
-
-pub read-after-digit : (most n c : ℕ) (cs : List ℕ) → digit c ≡ true → read-after most n (c ∷ cs) ≡ read-after most (n * 10 + (c - 48)) cs
+read-after-digit : (most n c : ℕ) (cs : List ℕ) → digit c ≡ true → read-after most n (c ∷ cs) ≡ read-after most (n * 10 + (c - 48)) cs
 read-after-digit most n c cs d = rw d
 
 -- once past the limit there is no number
-pub read-after-beyond : (most n : ℕ) (cs : List ℕ) → most < n → read-after most n cs ≡ None
+read-after-beyond : (most n : ℕ) (cs : List ℕ) → most < n → read-after most n cs ≡ None
 read-after-beyond most n [] h = rw (lt-leb n most h)
 read-after-beyond most n (c ∷ cs) h =
     elim (digit c) as (λ b. cond b (read-after most (n * 10 + (c - 48)) cs) None ≡ None)
     [ true ↦ read-after-beyond most (n * 10 + (c - 48)) cs (omega arith) | false ↦ refl ]
+
+-- A word w of which i bytes are read as n, and the byte at i.
+module _ (most n i : ℕ) (w : List ℕ) (more : i < length w) (so-far : read-after most n (drop i w) ≡ read-after most 0 w) where
+  -- it is no digit: the word is no number
+  pub none-at-other : digit (getD w i 0) ≡ false → None ≡ numeral most w
+  none-at-other d = sym (numeral-from most n i w more so-far ∙ rw d)
+
+  -- it takes the number past the limit
+  pub none-beyond : digit (getD w i 0) ≡ true → most < n * 10 + (getD w i 0 - 48) → None ≡ numeral most w
+  none-beyond d past =
+      sym (numeral-from most n i w more so-far
+      ∙ (read-after-digit most n (getD w i 0) (drop (i + 1) w) d
+      ∙ read-after-beyond most (n * 10 + (getD w i 0 - 48)) (drop (i + 1) w) past))
+
+  -- it is read
+  pub so-far-more : digit (getD w i 0) ≡ true → read-after most (n * 10 + (getD w i 0 - 48)) (drop (i + 1) w) ≡ read-after most 0 w
+  so-far-more d =
+      sym (read-after-digit most n (getD w i 0) (drop (i + 1) w) d) ∙ (ap (read-after most n) (sym (drop-more w i 0 more)) ∙ so-far)
