@@ -1,8 +1,8 @@
 // Whole numbers in decimal, as a script writes them and as an answer shows them.
 // A `-` stands before a negative number; there is no `+` and no other sign in a number.
 ghost use mathlib.Core.Path.{_≡_};
-ghost use mathlib.Core.List.{_++_};
-ghost use Prim.Native.Nat.{_≤_, _^_};
+ghost use mathlib.Core.List.{[], _∷_, _++_};
+ghost use Prim.Native.Nat.{_+_, _%_, _≤_, _^_};
 ghost use lib.IntN.{pos, negℤ};
 ghost use Rattle.std.specs.Options.{Cases};
 ghost use Rattle.std.specs.Of.Vec.{vec-items};
@@ -74,13 +74,26 @@ pub fn read_signed(word: &[u8]) -> Option<i64>
     }
 }
 
+fn last_digit(number: u64) -> u8
+    ensures { λ r. ⌜ r ≡ 48 + number % 10 ⌝ }
+{
+    b'0' + (number % 10) as u8
+}
+
 pub fn push_unsigned(out: &mut Vec<u8>, number: u64) -> Result<(), AllocError>
     ensures { λ r. ⌜ made r (λ _. vec-items (now (out .exit)) ≡ vec-items (now (out .entry)) ++ decimal number) ⌝ }
 {
     if number >= 10 {
         push_unsigned(out, number / 10)?;
     }
-    out.push(b'0' + (number % 10) as u8)?;
+    out.push(last_digit(number))?;
+    Ok(())
+}
+
+fn push_minus(out: &mut Vec<u8>) -> Result<(), AllocError>
+    ensures { λ r. ⌜ made r (λ _. vec-items (now (out .exit)) ≡ vec-items (now (out .entry)) ++ 45 ∷ []) ⌝ }
+{
+    out.push(b'-')?;
     Ok(())
 }
 
@@ -88,7 +101,7 @@ pub fn push_signed(out: &mut Vec<u8>, number: i64) -> Result<(), AllocError>
     ensures { λ r. ⌜ made r (λ _. vec-items (now (out .exit)) ≡ vec-items (now (out .entry)) ++ signed number) ⌝ }
 {
     if number < 0 {
-        out.push(b'-')?;
+        push_minus(out)?;
     }
     push_unsigned(out, number.unsigned_abs())
 }

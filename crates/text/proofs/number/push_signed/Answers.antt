@@ -12,7 +12,7 @@ use Rattle.std.specs.Of.Vec.{vec-items}
 use Rattle.std.specs.Written.{decimal, signed}
 use Rattle.std.proofs.shelf.Results.{made-weaker}
 use Rattle.text.proofs.number.push_signed.Needs as need
-use Rattle.text.proofs.number.push_signed.Needs.{then-number-lt0·in-Continue-push, else-number-lt0}
+use Rattle.text.proofs.number.push_signed.Needs.{then-number-lt0·in-Continue-push-minus, else-number-lt0}
 
 -- a negative number is written as a `-` and its size
 signed-below : (z : ℤ) → z <ℤ pos 0 → signed z ≡ 45 ∷ decimal (natAbs z)
@@ -31,8 +31,8 @@ returns c =
     let size : c .unsigned-abs .result ≡ natAbs z = simp toZ-ofZ at (c .unsigned-abs .ensures .value) in
     made-weaker (c .push-unsigned .result) _ _
     (λ _ digits. elim (c .if-number-lt0 .came) [
-      | then-number-lt0·in-Continue-push w ↦
-          (let minus = w .in-Continue-push .ensures tt .items in
+      | then-number-lt0·in-Continue-push-minus w ↦
+          (let minus = w .in-Continue-push-minus .ensures tt in
           let shown = signed-below z (omega (arith, ints)) in
           cc (append-assoc old (45 ∷ []) (decimal (natAbs z))))
       | else-number-lt0 w ↦ (let shown = signed-above z (omega (arith, ints)) in cc)
