@@ -33,7 +33,7 @@ fn post_then_total<B: Book>(
     intervals: Span,
 ) -> Result<B::Amount, B::Fault>
     ensures { IfOk result (λ t. t ≡ B.Amount.Amount.kind.joined
-        (total_of B.Amount.Amount.kind (means book.old).amount code participants pages intervals)
+        (total_of B.Amount.Amount.kind (B.means book.old).amount code participants pages intervals)
         (if covers code participants pages intervals key then amount else B.Amount.Amount.kind.nought)) }
 {
     book.post(key, amount)?;
@@ -51,7 +51,7 @@ fn total_in_parts<B: Book>(
 ) -> B::Amount
     requires { (pages.first ≤ cut) × (suc cut ≤ pages.last) }
     ensures { result
-        ≡ total_of B.Amount.Amount.kind (means book.now).amount code participants pages intervals }
+        ≡ total_of B.Amount.Amount.kind (B.means book.now).amount code participants pages intervals }
 {
     let early = book.total(
         code,
@@ -98,7 +98,7 @@ fn adjust_then_ask<B: Book<Amount = Cents>>(
 
 // Code over any book: how a post is answered.
 fn refusal_of<B: Book>(book: &mut B, key: Key, amount: B::Amount) -> Option<Refusal>
-    ensures { result ≡ post_refusal B.Amount.Amount.kind (means book.old) key amount }
+    ensures { result ≡ post_refusal B.Amount.Amount.kind (B.means book.old) key amount }
 {
     match book.post(key, amount) {
         Ok(()) => None,

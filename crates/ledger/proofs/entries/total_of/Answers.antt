@@ -9,24 +9,24 @@ use Rattle.ledger.proofs.entries.total_of.Goals as goal
 
 pub loop-entry-init : goal.loop-entry-init
 unfolding sum
-loop-entry-init g c = (omega arith, nought_within g.Amount-as-Amount.laws 0 _ (omega arith) c.nought-sum.ensures, c.nought-sum.ensures)
+loop-entry-init g c = (omega arith, nought_within g.E.Amount.Amount.laws 0 _ (omega arith) c.nought-sum.ensures, c.nought-sum.ensures)
 
 pub loop-entry-preserved : goal.loop-entry-preserved
 loop-entry-preserved g c =
-    let kind = g.Amount-as-Amount.kind in
-    let laws = g.Amount-as-Amount.laws in
+    let kind = g.E.Amount.Amount.kind in
+    let laws = g.E.Amount.Amount.laws in
     let line = g.E.Entry.entered in
     let test = covers c.args.code c.args.participants c.args.pages c.args.intervals in
     let e = c.entry-item.result in
-    let part : c.part-of.result ≡ put kind test (line e) = c.part-of.ensures ∙ ap (put kind test) c.line.ensures in
-    let small : kind.size c.part-of.result ≤ kind.largest = omega (arith, ap kind.size part, put_size laws test (line e)) in
-    let s = summed_more laws (λ e. put kind test (line e)) c.args.entries.now c.loop-entry.entry-index e c.loop-entry.sum c.part-of.result c.join-sum.result c.loop-entry-test.true (omega arith) (search rules) part small c.loop-entry.invariant.1 c.loop-entry.invariant.2 c.join-sum.ensures in
+    let part : c.part_of.result ≡ put kind test (line e) = c.part_of.ensures ∙ ap (put kind test) c.line.ensures in
+    let small : kind.size c.part_of.result ≤ kind.largest = omega (arith, ap kind.size part, put_size laws test (line e)) in
+    let s = summed_more laws (λ e. put kind test (line e)) c.args.entries.now c.loop-entry.entry-index e c.loop-entry.sum c.part_of.result c.join-sum.result c.loop-entry-test.true (omega arith) (search rules) part small c.loop-entry.invariant.1 c.loop-entry.invariant.2 c.join-sum.ensures in
     (omega arith, s.0, s.1)
 
 pub returns : goal.returns
 returns g c =
-    let kind = g.Amount-as-Amount.kind in
-    let laws = g.Amount-as-Amount.laws in
+    let kind = g.E.Amount.Amount.kind in
+    let laws = g.E.Amount.Amount.laws in
     let line = g.E.Entry.entered in
     let test = covers c.args.code c.args.participants c.args.pages c.args.intervals in
     let end : c.loop-entry.entry-index ≡ length c.args.entries.now = omega arith in

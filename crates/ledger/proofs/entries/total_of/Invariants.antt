@@ -6,7 +6,7 @@ use Rattle.ledger.proofs.entries.total_of.Given as goal
 
 abbrev pub invariant-loop-entry : goal.invariant-loop-entry
 invariant-loop-entry g l =
-    let kind = g.Amount-as-Amount.kind in
+    let kind = g.E.Amount.Amount.kind in
     (l.entry-index ≤ length l.entries)
     × Within kind l.entry-index l.sum
     × (l.sum ≡ sum_where kind g.E.Entry.entered (covers l.code l.participants l.pages l.intervals) (take l.entry-index l.entries))

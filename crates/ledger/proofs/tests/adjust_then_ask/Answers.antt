@@ -9,7 +9,7 @@ pub returns : goal.returns
 returns g c =
     let before = layer g.B.Book c.args.money.now in
     let after = layer g.B.Book c.adjust.new.self in
-    let granted = c.in-ok-adjust.ensures in
+    let granted = c.in_ok-adjust.ensures in
     let s = c.args.span in
     record {
       path =

@@ -4,8 +4,8 @@ use Rattle.ledger.proofs.tests.post_then_total.Goals as goal
 
 pub returns : goal.returns
 returns g c =
-    let laws = g.Amount-as-Amount.laws in
-    let posted = c.in-ok-post.ensures.after.amounts in
+    let laws = g.B.Amount.Amount.laws in
+    let posted = c.in_ok-post.ensures.after.amounts in
     c.total.ensures.sum
     ∙ total_alike laws c.args.code c.args.participants c.args.pages c.args.intervals _ _ posted
     ∙ total_posted laws c.args.code c.args.participants c.args.pages c.args.intervals _ c.args.key c.args.amount

@@ -6,8 +6,8 @@ use Rattle.ledger.proofs.tests.total_in_parts.Goals as goal
 
 pub returns : goal.returns
 returns g c =
-    let kind = g.Amount-as-Amount.kind in
-    let laws = g.Amount-as-Amount.laws in
+    let kind = g.B.Amount.Amount.kind in
+    let laws = g.B.Amount.Amount.laws in
     let m = g.B.Book.means c.args.book.now in
     let x = c.total-early in
     let y = c.total-late in

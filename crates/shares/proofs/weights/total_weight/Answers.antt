@@ -10,19 +10,19 @@ use Rattle.shares.specs.Totals.{total_more}
 use Rattle.shares.proofs.Verdicts.{inside, weight_taken, weight_refused}
 use Rattle.shares.proofs.weights.total_weight.Goals as goal
 
-pub returns-in-err-total : goal.returns-in-err-total
-returns-in-err-total c =
+pub returns-in_err-total : goal.returns-in_err-total
+returns-in_err-total c =
     let w = c.args.weights.now in
     let f : SFits w64 (at w c.loop-weight.weight-index) = search rules in
-    let r = weight_refused w _ _ _ c.loop-weight-test.true c.loop-weight.invariant.1 (simp to_z-of_z at c.in-err-total.ensures) in
-    let e = err_from_is_err_and c.from-residual.result c.from-residual.ensures.1 in
+    let r = weight_refused w _ _ _ c.loop-weight-test.true c.loop-weight.invariant.1 (simp to_z-of_z at c.in_err-total.ensures) in
+    let e = err_from_is_err_and c.from_residual.result c.from_residual.ensures.1 in
     e.1 ∙ ap Err (e.2 ∙ r.0) ∙ sym (ap (λ b. answered (cond b (Some Weights) None) (whole w)) r.1)
 
 pub loop-weight-preserved : goal.loop-weight-preserved
 loop-weight-preserved c =
     let w = c.args.weights.now in
     let f : SFits w64 (at w c.loop-weight.weight-index) = search rules in
-    let t = weight_taken _ _ _ (simp to_z-of_z at c.in-ok-total.ensures) in (
+    let t = weight_taken _ _ _ (simp to_z-of_z at c.in_ok-total.ensures) in (
       below_more _ _ c.loop-weight.invariant.0 t.0,
       ap pos t.1 ∙ total_more w _ _ c.loop-weight-test.true t.0 c.loop-weight.invariant.1,
       t.2,

@@ -9,16 +9,16 @@ use Rattle.tariff.proofs.charges.codes_in_group.Goals as goal
 use Rattle.tariff.specs.Charges.{codes_in}
 use Rattle.tariff.specs.Table.{charges}
 
-pub bounds-code-rows-group : goal.bounds-code-rows-group
-bounds-code-rows-group c =
-    omega (arith, row_count c.code-rows.result.now (codes_in charges) (range_with_len 0 37) c.code-rows.ensures)
+pub bounds-code_rows-group : goal.bounds-code_rows-group
+bounds-code_rows-group c =
+    omega (arith, row_count c.code_rows.result.now (codes_in charges) (range_with_len 0 37) c.code_rows.ensures)
 
-pub returns-then-group-le-LAST-GROUP : goal.returns-then-group-le-LAST-GROUP
-returns-then-group-le-LAST-GROUP c =
+pub returns-then-group-le-LAST_GROUP : goal.returns-then-group-le-LAST_GROUP
+returns-then-group-le-LAST_GROUP c =
     let group = c.args.group in
     let in_rows : group < 37 = omega arith in
-    row_at c.code-rows.result.now (codes_in charges) (range_with_len 0 37) c.code-rows.ensures group _ 0 in_rows
+    row_at c.code_rows.result.now (codes_in charges) (range_with_len 0 37) c.code_rows.ensures group _ 0 in_rows
     ∙ ap (codes_in charges) (get_or-range_with_len 0 37 group 0 in_rows ∙ zero-add group)
 
-pub returns-else-group-le-LAST-GROUP : goal.returns-else-group-le-LAST-GROUP
-returns-else-group-le-LAST-GROUP c = sym (no_codes_past c.args.group (omega arith))
+pub returns-else-group-le-LAST_GROUP : goal.returns-else-group-le-LAST_GROUP
+returns-else-group-le-LAST_GROUP c = sym (no_codes_past c.args.group (omega arith))

@@ -1,17 +1,17 @@
 use Rattle.std.proofs.Common.{◌≡◌, ◌+◌, ◌/◌, ◌%◌, ◌<◌, [], ◌∷◌, ◌++◌, vec_items, decimal, sym, ap, ◌∙◌, append_assoc, mod-eq_of_lt, arith}
 use Rattle.std.proofs.lemmas.Fmt.{decimal_digit, decimal_step}
 use Rattle.text.proofs.number.+push_unsigned.Goals as goal
-use Rattle.text.proofs.number.+push_unsigned.Goals.{then-number-ge10+in-ok-push-unsigned, else-number-ge10}
+use Rattle.text.proofs.number.+push_unsigned.Goals.{then-number-ge10+in_ok-push_unsigned, else-number-ge10}
 
 pub returns : goal.returns
 returns t c =
     let n = c.args.number in
     let old = vec_items c.args.out.now in
-    let items = c.in-ok-push.ensures.items in
+    let items = c.in_ok-push.ensures.items in
     elim c.if-number-ge10.branch [
-      | then-number-ge10+in-ok-push-unsigned w ↦
+      | then-number-ge10+in_ok-push_unsigned w ↦
           (let step = decimal_step n w.if-number-ge10.true (omega arith) in
-          let front = w.in-ok-push-unsigned.ensures in
+          let front = w.in_ok-push_unsigned.ensures in
           cc (append_assoc old (decimal (n / 10)) ((48 + n % 10) ∷ [])))
       | else-number-ge10 w ↦
           (let small : n < 10 = omega arith in

@@ -7,7 +7,7 @@ pub returns : goal.returns
 returns c =
     let w = c.args.word.now in
     let t = c.args.text.now in
-    let same : c.as-bytes.result.now ≡ t = c.as-bytes.ensures.value in
-    let tells : Decides c.eq.result (w ≡ t) = rw same at (slice_eq-Decides Decides-eqb w c.as-bytes.result.now c.eq.result c.eq.ensures) in
+    let same : c.as_bytes.result.now ≡ t = c.as_bytes.ensures.value in
+    let tells : Decides c.eq.result (w ≡ t) = rw same at (slice_eq-Decides Decides-eqb w c.as_bytes.result.now c.eq.result c.eq.ensures) in
     let spelt = bytes_eq-Decides w t in
     search rules

@@ -7,7 +7,7 @@ pub returns : goal.returns
 returns g c =
     let s = c.args.self.now in
     let v = layer g.B.Book s in
-    let took = c.in-ok-post.ensures in
+    let took = c.in_ok-post.ensures in
     record {
       answer = took.answer ∙ sym (refusal_below v c.args.key c.args.amount c.requires);
       after = record {

@@ -10,8 +10,8 @@ use Rattle.ledger.proofs.adjustments.AdjustmentsBook.total.Goals as goal
 pub returns : goal.returns
 returns g c =
     let v = layer g.B.Book c.args.self.now in
-    let x = c.path-total-system in
-    let y = c.path-total-own in
+    let x = c.path_total-system in
+    let y = c.path_total-own in
     let joins : c.join.result ≡ cents.joined x.result y.result =
     c.join.ensures (joins_fit cents_laws v.below.lines (length v.held) x.result y.result x.ensures.size y.ensures.size) in
     record {

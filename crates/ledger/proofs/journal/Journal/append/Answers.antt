@@ -6,4 +6,4 @@ pub returns : goal.returns
 returns g c =
     let s = c.args.self.now in
     let line = c.args.line in
-    journal_posted g.K-as-Amount.laws s.entries.now s.used line.key line.amount (omega arith) (omega arith) c.requires.allowed
+    journal_posted g.K.Amount.laws s.entries.now s.used line.key line.amount (omega arith) (omega arith) c.requires.allowed

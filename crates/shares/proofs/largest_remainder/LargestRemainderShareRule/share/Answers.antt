@@ -3,17 +3,17 @@ use Rattle.std.proofs.lemmas.List.{length-take-le}
 use Rattle.shares.specs.LargestRemainder.{remainder_size, largest_remainder}
 use Rattle.shares.proofs.Filling.{Admitted, admitted, divides, answered_all, shared_from}
 use Rattle.shares.proofs.largest_remainder.LargestRemainderShareRule.share.Goals as goal
-use Rattle.shares.proofs.largest_remainder.LargestRemainderShareRule.share.Goals.{InOkDivision}
+use Rattle.shares.proofs.largest_remainder.LargestRemainderShareRule.share.Goals.{In_ok-division}
 
-known : (c : InOkDivision) → Admitted c.args.amount c.args.weights.now (length c.args.shares.now) c.in-ok-division.division
-known c = admitted _ _ _ _ c.ranges.amount c.in-ok-division.ensures
+known : (c : In_ok-division) → Admitted c.args.amount c.args.weights.now (length c.args.shares.now) c.in_ok-division.division
+known c = admitted _ _ _ _ c.ranges.amount c.in_ok-division.ensures
 
-pub slice-bounds-share-out-end : goal.slice-bounds-share-out-end
-slice-bounds-share-out-end c = (known c).room
+pub slice_bounds-share_out-end : goal.slice_bounds-share_out-end
+slice_bounds-share_out-end c = (known c).room
 
-pub share-out-requires : goal.share-out-requires
-share-out-requires c =
-    let m = known (goal.at.share-out-requires c).InOkDivision in
+pub share_out-requires : goal.share_out-requires
+share_out-requires c =
+    let m = known (goal.at.share_out-requires c).In_ok-division in
     record {
       divides = divides _ _ _ _ m;
       places = length-take-le (length c.args.weights.now - 0) c.args.shares.now (omega (arith, m.room)) ∙ omega arith;
@@ -22,8 +22,8 @@ share-out-requires c =
 pub returns : goal.returns
 unfolding largest_remainder
 returns c =
-    let m = known (goal.at.returns c).InOkDivision in
+    let m = known (goal.at.returns c).In_ok-division in
     record {
       answer = answered_all _ _ _ _ m;
-      places = shared_from remainder_size _ _ _ _ _ (length c.args.weights.now - 0) m (omega arith) c.share-out.ensures;
+      places = shared_from remainder_size _ _ _ _ _ (length c.args.weights.now - 0) m (omega arith) c.share_out.ensures;
     }

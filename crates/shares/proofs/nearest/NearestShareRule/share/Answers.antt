@@ -7,17 +7,17 @@ use Rattle.shares.proofs.Filling.{Admitted, admitted, part_at, divides, within, 
 use Rattle.shares.specs.Quotients.{rounded_le}
 use Rattle.shares.specs.Totals.{part_le}
 use Rattle.shares.proofs.nearest.NearestShareRule.share.Goals as goal
-use Rattle.shares.proofs.nearest.NearestShareRule.share.Goals.{InOkDivision, AfterUnsignedAbs}
+use Rattle.shares.proofs.nearest.NearestShareRule.share.Goals.{In_ok-division, After-unsigned_abs}
 
-known : (c : InOkDivision) → Admitted c.args.amount c.args.weights.now (length c.args.shares.now) c.in-ok-division.division
-known c = admitted _ _ _ _ c.ranges.amount c.in-ok-division.ensures
+known : (c : In_ok-division) → Admitted c.args.amount c.args.weights.now (length c.args.shares.now) c.in_ok-division.division
+known c = admitted _ _ _ _ c.ranges.amount c.in_ok-division.ensures
 
-part_within : (c : AfterUnsignedAbs) → Within c.in-ok-division.division c.unsigned-abs.result
+part_within : (c : After-unsigned_abs) → Within c.in_ok-division.division c.unsigned_abs.result
 part_within c =
     let w = c.args.weights.now in
-    let v = divides _ w _ _ (known (goal.at.nearest-size-requires c).InOkDivision) in
+    let v = divides _ w _ _ (known (goal.at.nearest-size-requires c).In_ok-division) in
     let f : SFits w64 (at w c.loop-i.i) = search rules in
-    let x = part_at w c.loop-i.i _ f c.unsigned-abs.ensures.value in
+    let x = part_at w c.loop-i.i _ f c.unsigned_abs.ensures.value in
     within _ w _ v (omega (arith, part_le w c.loop-i.i v.none_below_zero c.loop-i-test.true))
 
 pub nearest-size-requires : goal.nearest-size-requires
@@ -25,30 +25,30 @@ nearest-size-requires c = part_within c
 
 pub signed-requires : goal.signed-requires
 signed-requires c =
-    let v = divides _ _ _ _ (known (goal.at.signed-requires c).InOkDivision) in
-    let h = part_within (goal.at.signed-requires c).AfterUnsignedAbs in
-    omega (arith, c.nearest_size.ensures, rounded_le c.in-ok-division.division.size c.unsigned-abs.result c.in-ok-division.division.total h.part_within, v.size_within)
+    let v = divides _ _ _ _ (known (goal.at.signed-requires c).In_ok-division) in
+    let h = part_within (goal.at.signed-requires c).After-unsigned_abs in
+    omega (arith, c.nearest-size.ensures, rounded_le c.in_ok-division.division.size c.unsigned_abs.result c.in_ok-division.division.total h.part_within, v.size_within)
 
 pub bounds-shares-i : goal.bounds-shares-i
-bounds-shares-i c = omega (arith, (known (goal.at.bounds-shares-i c).InOkDivision).room)
+bounds-shares-i c = omega (arith, (known (goal.at.bounds-shares-i c).In_ok-division).room)
 
 pub loop-i-preserved : goal.loop-i-preserved
 loop-i-preserved c =
     let w = c.args.weights.now in
     let i = c.loop-i.i in
-    let d = c.in-ok-division.division in
-    let m = known (goal.at.loop-i-preserved c).InOkDivision in
+    let d = c.in_ok-division.division in
+    let m = known (goal.at.loop-i-preserved c).In_ok-division in
     let f : SFits w64 (at w i) = search rules in
     let g : SFits w64 c.signed.result = search rules in
-    let x : c.unsigned-abs.result ≡ part w i = part_at w i _ f c.unsigned-abs.ensures.value in
-    let n : c.nearest_size.result ≡ nearest_size d.size w i =
-    c.nearest_size.ensures ∙ ap (λ y. rounded (d.size * y) d.total) x ∙ ap (λ b. rounded (d.size * part w i) b.total) m.same in
+    let x : c.unsigned_abs.result ≡ part w i = part_at w i _ f c.unsigned_abs.ensures.value in
+    let n : c.nearest-size.result ≡ nearest_size d.size w i =
+    c.nearest-size.ensures ∙ ap (λ y. rounded (d.size * y) d.total) x ∙ ap (λ b. rounded (d.size * part w i) b.total) m.same in
     filled_more nearest_size d w c.args.shares.now c.loop-i.shares i _ _ c.loop-i-test.true m.room c.loop-i.invariant g c.signed.ensures n
 
 pub returns : goal.returns
 unfolding nearest
 returns c =
-    let m = known (goal.at.returns c).InOkDivision in
+    let m = known (goal.at.returns c).In_ok-division in
     record {
       answer = answered_all _ _ _ _ m;
       places = filled_all nearest_size _ _ _ _ _ _ m (omega arith) c.loop-i.invariant;

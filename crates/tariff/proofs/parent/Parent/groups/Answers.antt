@@ -17,13 +17,13 @@ by_number DailyRounded = refl
 by_number Monthly = refl
 by_number DailyUnrounded = refl
 
-pub bounds-group-rows-row : goal.bounds-group-rows-row
-bounds-group-rows-row c =
-    let three = row_count c.group-rows.result.now groups_with parents c.group-rows.ensures in
+pub bounds-group_rows-row : goal.bounds-group_rows-row
+bounds-group_rows-row c =
+    let three = row_count c.group_rows.result.now groups_with parents c.group_rows.ensures in
     omega (arith, three, one_of_three c.args.self, c.number.ensures)
 
 pub returns : goal.returns
 returns c =
     let p = c.args.self in
-    let row = row_at c.group-rows.result.now groups_with parents c.group-rows.ensures (parent_number p - 1) _ DailyRounded in
+    let row = row_at c.group_rows.result.now groups_with parents c.group_rows.ensures (parent_number p - 1) _ DailyRounded in
     rw c.number.ensures (row (one_of_three p) ∙ ap groups_with (by_number p))

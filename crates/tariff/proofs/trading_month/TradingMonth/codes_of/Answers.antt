@@ -5,4 +5,4 @@ use Rattle.tariff.specs.Month.{table_of}
 
 pub returns : goal.returns
 unfolding table_of
-returns c = c.codes-in-group.ensures
+returns c = c.codes_in_group.ensures

@@ -5,4 +5,4 @@ use Rattle.tariff.specs.Month.{parent_of}
 
 pub returns : goal.returns
 unfolding parent_of
-returns c = c.with-group.ensures
+returns c = c.with_group.ensures

@@ -5,4 +5,4 @@ use Rattle.tariff.specs.Month.{table_of}
 
 pub returns : goal.returns
 unfolding table_of
-returns c = c.charge-table.ensures
+returns c = c.charge_table.ensures

@@ -7,8 +7,8 @@ after_nothing : (t : List ℕ) → length t ≡ 0 → t ≡ after_line t
 after_nothing [] e = refl
 after_nothing (c ∷ cs) e = absurd (omega arith)
 
-pub returns-then-is-empty : goal.returns-then-is-empty
-returns-then-is-empty c =
+pub returns-then-is_empty : goal.returns-then-is_empty
+returns-then-is_empty c =
     let t = c.args.self.now.rest.now in
-    let none : eqb (length t) 0 ≡ true = sym c.if-is-empty.ensures in
+    let none : eqb (length t) 0 ≡ true = sym c.if-is_empty.ensures in
     record { line = sym (cond-true (eqb (length t) 0) _ _ none); rest = after_nothing t (eqb-true (length t) 0 none); passed = refl }
