@@ -45,8 +45,8 @@ verb w =
 abbrev pub rule_named : List ℕ → Option RuleName
 rule_named w =
     cond (bytes_eq w (codes "nearest")) (Some Nearest)
-    (cond (bytes_eq w (codes "largest_remainder")) (Some LargestRemainder)
-    (cond (bytes_eq w (codes "running_carry")) (Some RunningCarry) None))
+    (cond (bytes_eq w (codes "largest-remainder")) (Some LargestRemainder)
+    (cond (bytes_eq w (codes "running-carry")) (Some RunningCarry) None))
 
 abbrev pub path_named : List ℕ → Option Path
 path_named w =

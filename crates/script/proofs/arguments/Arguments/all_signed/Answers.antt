@@ -14,17 +14,17 @@ pub loop-word-preserved : goal.loop-word-preserved
 loop-word-preserved c =
     let t = ahead c.loop-word.self in
     let e = c.in-Some.ensures in
-    let read = c.in-ok-read-signed.ensures in
+    let read = c.in_ok-read_signed.ensures in
     let here = all_signed_word t c.in-Some.word.now e.word ∙ ap (λ o. given o (λ _. all_signed (after_word t))) (sym read) in
     ap all_signed e.rest ∙ (sym here ∙ c.loop-word.invariant)
 
-pub returns-in-err-read-signed : goal.returns-in-err-read-signed
-returns-in-err-read-signed c =
+pub returns-in_err-read_signed : goal.returns-in_err-read_signed
+returns-in_err-read_signed c =
     let t = ahead c.loop-word.self in
     let e = c.in-Some.ensures in
-    let read = c.in-err-read-signed.ensures in
+    let read = c.in_err-read_signed.ensures in
     let here = all_signed_word t c.in-Some.word.now e.word ∙ ap (λ o. given o (λ _. all_signed (after_word t))) (sym read) in
-    c.from-residual.ensures ∙ (sym here ∙ c.loop-word.invariant)
+    c.from_residual.ensures ∙ (sym here ∙ c.loop-word.invariant)
 
 pub returns : goal.returns
-returns c = sym (all_signed_none (ahead c.loop-word.self) c.in-default.ensures.word) ∙ c.loop-word.invariant
+returns c = sym (all_signed_none (ahead c.loop-word.self) c.in_default.ensures.word) ∙ c.loop-word.invariant
