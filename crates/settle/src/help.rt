@@ -23,6 +23,6 @@ One command a line; `#` starts a comment. The commands:
   balance
   share RULE AMOUNT WEIGHT...
 
-RULE is nearest, largest_remainder or running_carry. Page 0 is the month's own
+RULE is nearest, largest-remainder or running-carry. Page 0 is the month's own
 page. docs/SCRIPT.md has the whole format, docs/RULES.md the rules.
 ";

@@ -14,6 +14,7 @@ use sheet::Sheet;
 use std::alloc::Global;
 use std::io;
 use std::io::Write;
+use std::process::ExitCode;
 use text::Lines;
 
 // The program has said on standard error what went wrong; it ends with status 1.
@@ -68,10 +69,10 @@ fn exercise(rt: &HostRuntime, path: Option<&str>) -> Result<(), Failed> {
     Ok(())
 }
 
-fn main(rt: HostRuntime) -> Result<(), Failed> {
-    match requested(&rt) {
-        Ok(Request::RunFile(path)) => exercise(&rt, Some(path.as_str())),
-        Ok(Request::RunInput) => exercise(&rt, None),
+fn serve(rt: &HostRuntime) -> Result<(), Failed> {
+    match requested(rt) {
+        Ok(Request::RunFile(path)) => exercise(rt, Some(path.as_str())),
+        Ok(Request::RunInput) => exercise(rt, None),
         Ok(Request::Help) => match rt.print(HELP) {
             Ok(()) => Ok(()),
             Err(_) => Err(Failed),
@@ -80,5 +81,13 @@ fn main(rt: HostRuntime) -> Result<(), Failed> {
             let _ = eprintln!(rt; "settle: {e}; settle --help says how to use it");
             Err(Failed)
         }
+    }
+}
+
+// An error that `main` returns would be printed once more, so it returns the status alone.
+fn main(rt: HostRuntime) -> ExitCode {
+    match serve(&rt) {
+        Ok(()) => ExitCode::SUCCESS,
+        Err(Failed) => ExitCode::FAILURE,
     }
 }

@@ -15,7 +15,7 @@ pub loop-before-preserved : goal.loop-before-preserved
 loop-before-preserved g c =
     let inv = c.loop-before.invariant in
     balance_more (terms_of c.args.opening) (layer g.B.Book c.args.money.now) c.lines.ensures.bound (omega (arith, layer_limited g.B.Book c.args.money.now))
-    c.loop-before.before c.loop-before.balance c.month-side.result c.join-balance.result (omega arith) inv.0 inv.1 c.month-side.ensures c.join-balance.ensures
+    c.loop-before.before c.loop-before.balance c.month_side.result c.join-balance.result (omega arith) inv.0 inv.1 c.month_side.ensures c.join-balance.ensures
 
 pub returns : goal.returns
 unfolding trial_balance

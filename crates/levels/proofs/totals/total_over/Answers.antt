@@ -25,7 +25,7 @@ loop-entry-preserved g c =
     let here : i < length items = omega arith in
     found_more
     (found_in (terms_of o) c.args.scope (amounts_by c.args.path (layer g.B.Book c.args.money.now)))
-    items i (0, 0) c.loop-entry.sum c.entry-total.result c.join-sum.result here (omega arith) c.entry-total.ensures.sum c.entry-total.ensures.size inv.0 inv.1 c.join-sum.ensures
+    items i (0, 0) c.loop-entry.sum c.entry_total.result c.join-sum.result here (omega arith) c.entry_total.ensures.sum c.entry_total.ensures.size inv.0 inv.1 c.join-sum.ensures
 
 pub returns : goal.returns
 returns g c =

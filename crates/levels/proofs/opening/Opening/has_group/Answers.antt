@@ -5,4 +5,4 @@ use Rattle.levels.proofs.opening.Opening.has_group.Goals as goal
 pub returns : goal.returns
 returns c =
     let m = c.args.self.month in
-    c.has-parent.ensures ∙ (tariff_sound m.year m.month).with_parent c.args.group
+    c.has_parent.ensures ∙ (tariff_sound m.year m.month).with_parent c.args.group
