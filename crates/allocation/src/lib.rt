@@ -1,4 +1,6 @@
 // Sharing out and handing out: measured demand as weights, the two steps of an allocation, and the lines that shares become.
+#![tactic(auto)]
+
 mod demand;
 mod handing;
 mod rounding;

@@ -1,5 +1,7 @@
 // Any course of calls on a month, from its opening on empty books: each call is answered as the rules say at what the calls
 // before it made, and after every call the totals add up and the allotted pages balance.
+#![tactic(auto)]
+
 mod answer;
 mod call;
 mod course;

@@ -1,5 +1,7 @@
 // The ledger: amounts that join, the books that keep them by key, and the pass-through adjustments over a book of money.
 // What a book means is one record, and each call is proved by what it does to that record.
+#![tactic(auto)]
+
 mod adjust_fault;
 mod adjustment;
 mod adjustments;

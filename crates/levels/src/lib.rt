@@ -1,5 +1,7 @@
 // The levels of a statement: what a month's terms are, the questions that may be asked of its money, and the trial balance.
 // A total is the sum over the keys that its question covers, so that a client can be walked up from a subtotal to the month.
+#![tactic(auto)]
+
 mod admission;
 mod asking;
 mod opening;

@@ -1,5 +1,7 @@
 // The trading month: its seven calls, and the questions that can be asked of it.
 // What it means is one record of facts, and each call is proved by what it does to that record, over any books and any rule.
+#![tactic(auto)]
+
 mod allocating;
 mod checks;
 mod entering;

@@ -1,5 +1,7 @@
 // The program: reads an exercise, runs it through the library, and prints the key.
 // No rule of a settlement lives here; what the script's words mean stands in `script`.
+#![tactic(auto)]
+
 mod answer;
 mod desk;
 mod help;

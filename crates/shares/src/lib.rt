@@ -1,6 +1,8 @@
 // Share rules: how an amount is divided by weights.
 // A rule reads lent weights and writes lent places, one share for each weight; its answer goes by the amount and
 // the weights alone. Three rules stand here, and a caller takes any by the bound `ShareRule` or `ExactRule`.
+#![tactic(auto)]
+
 mod division;
 mod fault;
 mod largest_remainder;

@@ -1,6 +1,8 @@
 // Facts of the trade: the calendar of a trading month, its charge codes with their groups and parents, and its pages.
 // Ask them of a `TradingMonth`: a later month may have another table or other days.
 // There is no money here and nothing changes: what is answered is fixed by the month.
+#![tactic(auto)]
+
 mod calendar;
 mod charges;
 mod facts;

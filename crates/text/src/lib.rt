@@ -1,4 +1,6 @@
 // Plain text: the lines of a text, the words of a line, and the numbers that words write.
+#![tactic(auto)]
+
 mod number;
 mod word;
 
