@@ -2,7 +2,7 @@
 use Rattle.std.proofs.Common.{◌≡◌, ℕ, Bool, true, false, not, ◌&&◌, eqb, ltb, List, [], ◌∷◌, length, pos, ◌+ℤ◌, Some, None, Option, sym, refl, ap, ◌∙◌, inl, inr, ⊎_elim, arith}
 use lib.Signed.{lt_z}
 use Rattle.std.specs.Option.{option_map, option_or}
-use Rattle.std.specs.List.{AllByRecursion as All}
+use Rattle.std.specs.List.{AllByRecursion}
 use Rattle.std.proofs.lemmas.Bool.{and_cases, and_from, and_parts, both_ways, eq-eqb, not-false, or_parts}
 use Rattle.allocation.specs.Demand.{interval_weights}
 use Rattle.ledger.specs.Faults.{first_met}
@@ -36,7 +36,7 @@ pub none_mapped : {R Q : Type 0} (f : R → Q) (a : Option R) → option_map f a
 none_mapped f None e = refl
 none_mapped f (Some r) e = absurd (never (f r) e)
 
-pub none_met : (layer : ℕ) (place : Key) (cs : List (Bool × ℕ)) → first_met layer place cs ≡ None → All (λ c. c.0 ≡ false) cs
+pub none_met : (layer : ℕ) (place : Key) (cs : List (Bool × ℕ)) → first_met layer place cs ≡ None → AllByRecursion (λ c. c.0 ≡ false) cs
 none_met layer place [] e = tt
 none_met layer place ((true, n) ∷ cs) e = absurd (never _ e)
 none_met layer place ((false, n) ∷ cs) e = (refl, none_met layer place cs e)

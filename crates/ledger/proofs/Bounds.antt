@@ -1,6 +1,6 @@
 -- Bounds: lines back the amounts that they mean, and what is backed stays small.
 use Rattle.std.proofs.Common.{◌≡◌, ℕ, suc, ◌+◌, ◌*◌, ◌^◌, ◌<◌, ◌≤◌, Bool, true, false, ◌&&◌, eqb, List, [], ◌∷◌, length, get_or, take, sum_by, sym, ap, ◌∙◌, ⊎_elim, mul-le-mul_right, add-mul, one-mul, arith}
-use Rattle.std.specs.List.{AllByRecursion as All}
+use Rattle.std.specs.List.{AllByRecursion}
 use Rattle.std.proofs.lemmas.List.Sums.{sum_by-cons}
 use Rattle.std.proofs.lemmas.Bool.{cases_Bool, eqb-true, and_parts, cond-false, cond_both}
 use Rattle.ledger.specs.Amounts.{Kind, Laws, most_lines}
@@ -62,7 +62,7 @@ module _ {X : Type 0} {kind : Kind X} (laws : Laws kind) where
     at_size : Key → ℕ
     at_size q = kind.size (put kind (λ k. same k q) l)
 
-    elsewhere : (k : Key) → same l.key k ≡ true → (ks : List Key) → All (λ q. same k q ≡ false) ks → sum_by at_size ks ≤ 0
+    elsewhere : (k : Key) → same l.key k ≡ true → (ks : List Key) → AllByRecursion (λ q. same k q ≡ false) ks → sum_by at_size ks ≤ 0
     unfolding at_size
     elsewhere k e [] a = omega arith
     elsewhere k e (q ∷ qs) a =

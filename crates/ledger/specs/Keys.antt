@@ -1,6 +1,6 @@
 -- Keys: where amounts stand.
 use Rattle.std.specs.Prelude.{◌≡◌, ℕ, Bool, false, ◌&&◌, List, [], ◌∷◌, ◌==◌, nat_le}
-use Rattle.std.specs.List.{AllByRecursion as All}
+use Rattle.std.specs.List.{AllByRecursion}
 use Rattle.ledger.specs.declared.key.Key.{Key}
 
 abbrev pub key_of : ℕ → ℕ → ℕ → ℕ → Key
@@ -18,4 +18,4 @@ known participant = nat_le 1 participant && nat_le participant 32
 -- keys of which no two are the same
 abbrev pub distinct : List Key → Type 0
 distinct [] = Unit {0}
-distinct (q ∷ qs) = All (λ p. same q p ≡ false) qs × distinct qs
+distinct (q ∷ qs) = AllByRecursion (λ p. same q p ≡ false) qs × distinct qs

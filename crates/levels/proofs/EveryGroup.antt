@@ -1,6 +1,6 @@
 -- The groups of all parents: each number that is a group stands among them once, and no other does.
 use Rattle.std.proofs.Common.{◌≡◌, ℕ, ◌+◌, ◌<◌, ◌≤◌, Bool, true, cond, eqb, List, [], ◌∷◌, length, is_some, Some, count_by, filter, sym, refl, ap, ◌∙◌, inl, inr, ⊎_elim, arith}
-use Rattle.std.specs.List.{AllByRecursion as All}
+use Rattle.std.specs.List.{AllByRecursion}
 use Rattle.std.proofs.ByRecursion.{All-append, All-weaker}
 use Rattle.std.proofs.lemmas.List.{length-map}
 use Rattle.std.proofs.lemmas.List.Sums.{sum_by-cons}
@@ -13,7 +13,7 @@ use Rattle.tariff.specs.declared.parent.Parent.TheVariants.{DailyRounded, DailyU
 use Rattle.levels.specs.Levels.{Has, Once}
 
 -- where a test keeps something, some element passes it
-kept_some : {X : Type 0} (test : X → Bool) (P : X → Type 0) (xs : List X) → All P xs → 0 < length (filter test xs) → (x : X) × (test x ≡ true) × P x
+kept_some : {X : Type 0} (test : X → Bool) (P : X → Type 0) (xs : List X) → AllByRecursion P xs → 0 < length (filter test xs) → (x : X) × (test x ≡ true) × P x
 kept_some test P [] h some = let z : ⊥ = omega arith in absurd z
 kept_some test P (x ∷ xs) h some =
     ⊎_elim
@@ -33,13 +33,13 @@ has_counted x (y ∷ ys) some =
     (λ missed. inr (has_counted x ys (omega (arith, count_cons x y ys, cond-false {A = ℕ} (eqb x y) 1 0 missed))))
     (cases_Bool (eqb x y))
 
-absent : (x : ℕ) (ys : List ℕ) → count_by (eqb x) ys ≤ 0 → All (λ y. x ≡ y → ⊥) ys
+absent : (x : ℕ) (ys : List ℕ) → count_by (eqb x) ys ≤ 0 → AllByRecursion (λ y. x ≡ y → ⊥) ys
 absent x [] none = tt
 absent x (y ∷ ys) none =
     (λ e. omega (arith, none, count_cons x y ys, cond-true {A = ℕ} (eqb x y) 1 0 (eq-eqb x y e)), absent x ys (omega (arith, none, count_cons x y ys)))
 
 -- what is counted once stands there once
-once_counted : (xs : List ℕ) → All (λ x. count_by (eqb x) xs ≤ 1) xs → Once xs
+once_counted : (xs : List ℕ) → AllByRecursion (λ x. count_by (eqb x) xs ≤ 1) xs → Once xs
 once_counted [] h = tt
 once_counted (x ∷ xs) h = (
   absent x xs (omega (arith, h.0, count_cons x x xs, cond-true {A = ℕ} (eqb x x) 1 0 (eq-eqb x x refl))),
@@ -58,12 +58,12 @@ module _ (year month : ℕ) where
   pub has_group : (g : ℕ) → is_group year month g ≡ true → Has (every_group year month) g
   has_group g h = has_counted g (every_group year month) (omega (arith, counted g h))
 
-  of_parent : (parent : Parent) → All (λ g. is_group year month g ≡ true) (groups_of year month parent)
+  of_parent : (parent : Parent) → AllByRecursion (λ g. is_group year month g ≡ true) (groups_of year month parent)
   of_parent parent =
       let s = tariff_sound year month in
       All-weaker (λ g. parent_of year month g ≡ Some parent) (λ g. is_group year month g ≡ true) (λ g e. sym (s.with_parent g) ∙ ap is_some e) (groups_of year month parent) (s.listed parent)
 
-  pub all_groups : All (λ g. is_group year month g ≡ true) (every_group year month)
+  pub all_groups : AllByRecursion (λ g. is_group year month g ≡ true) (every_group year month)
   all_groups =
       All-append _ (groups_of year month DailyRounded) _ (of_parent DailyRounded) (
       All-append _ (groups_of year month Monthly) (groups_of year month DailyUnrounded) (of_parent Monthly) (of_parent DailyUnrounded))

@@ -1,6 +1,6 @@
 -- Finding a total over a scope: code by code, each by one question.
 use Rattle.std.proofs.Common.{◌≡◌, ℕ, ◌≤◌, Bool, true, false, cond, ◌&&◌, List, [], ◌∷◌, map, Some, None, Option, sym, refl, ap, ◌∙◌, arith}
-use Rattle.std.specs.List.{flat_map, AllByRecursion as All}
+use Rattle.std.specs.List.{flat_map, AllByRecursion}
 use Rattle.std.proofs.lemmas.Bool.{cond-true}
 use Rattle.ledger.specs.Keys.{key_of}
 use Rattle.ledger.specs.Kinds.{cents}
@@ -106,7 +106,7 @@ module _ (t : Terms) (s : Scope) (amount : Key → Cents) where
   found_kind b code (Some kind) e = found_code code kind ∙ ap (λ x. cond x (found_on t s amount code kind) cents.nought) (sym e)
 
   -- of the table's own codes, those are chosen whose entries are
-  chosen_entries : (es : List Entry) → All (λ e. group_of t.year t.month e.0 ≡ Some e.1) es → All (λ e. sum cents had (keys_on t e.0 (kind_of_group t.year t.month e.1)) ≡ found_in t s amount e) es
+  chosen_entries : (es : List Entry) → AllByRecursion (λ e. group_of t.year t.month e.0 ≡ Some e.1) es → AllByRecursion (λ e. sum cents had (keys_on t e.0 (kind_of_group t.year t.month e.1)) ≡ found_in t s amount e) es
   chosen_entries [] h = tt
   chosen_entries (e ∷ es) h =
       (found_kind (chosen t s.codes e) e.0 (kind_of_group t.year t.month e.1) (sym (ap (chosen_in t s.codes e.0) h.0)), chosen_entries es h.1)

@@ -1,7 +1,7 @@
 -- The keys of a month: each of them holds, each that holds is one of them, and none stands twice.
 use Rattle.std.proofs.Common.{◌≡◌, ℕ, true, false, List, [], ◌∷◌, map, Some, None, Option, sym, refl, ap, ◌∙◌, subst, ⊎_elim, arith}
 use Rattle.std.specs.Option.{option_flatten, option_map}
-use Rattle.std.specs.List.{AllByRecursion as All}
+use Rattle.std.specs.List.{AllByRecursion}
 use Rattle.std.proofs.ByRecursion.{All-map, All-weaker}
 use Rattle.std.proofs.lemmas.Bool.{and_from, and_parts, cases_Bool}
 use Rattle.ledger.specs.Keys.{distinct, key_of, same}
@@ -30,13 +30,13 @@ place_in t Month d i h = grind arith
 place_in t Day d i h = and_parts _ _ h
 
 module _ (t : Terms) where
-  intervals_held : (code p d : ℕ) (kind : PageKind) → kind_of_code t.year t.month code ≡ Some kind → takes_part t p ≡ true → has (pages_of t kind) d ≡ true → All (λ k. holds t k ≡ true) (map (λ i. key_of code p d i) (members (intervals_on t kind d)))
+  intervals_held : (code p d : ℕ) (kind : PageKind) → kind_of_code t.year t.month code ≡ Some kind → takes_part t p ≡ true → has (pages_of t kind) d ≡ true → AllByRecursion (λ k. holds t k ≡ true) (map (λ i. key_of code p d i) (members (intervals_on t kind d)))
   intervals_held code p d kind e takes page =
       All-map (λ k. holds t k ≡ true) (λ i. key_of code p d i) (members (intervals_on t kind d))
       (all_members (λ i. holds t (key_of code p d i) ≡ true) (intervals_on t kind d) (λ i interval.
       and_from (takes_part t p) (stands t code d i) takes (ap (λ o. on_kind o (λ x. is_interval t.year t.month x d i)) e ∙ place_on t kind d i page interval)))
 
-  code_held : (code : ℕ) (o : Option PageKind) → kind_of_code t.year t.month code ≡ o → All (λ k. holds t k ≡ true) (keys_on t code o)
+  code_held : (code : ℕ) (o : Option PageKind) → kind_of_code t.year t.month code ≡ o → AllByRecursion (λ k. holds t k ≡ true) (keys_on t code o)
   code_held code None e = tt
   code_held code (Some kind) e =
       all_joined _ (λ k. holds t k ≡ true) (members (participants_of t)) (λ p takes.
@@ -44,7 +44,7 @@ module _ (t : Terms) where
       intervals_held code p d kind e (member (participants_of t) p takes) (member (pages_of t kind) d page)))
 
   -- each of them holds
-  pub keys_hold : All (λ k. holds t k ≡ true) (keys t)
+  pub keys_hold : AllByRecursion (λ k. holds t k ≡ true) (keys t)
   unfolding keys
   keys_hold =
       let table = table_of t.year t.month in
@@ -80,7 +80,7 @@ module _ (t : Terms) where
       (pages_of t kind))
       (participants_of t)
 
-  code_told : (code : ℕ) (o : Option PageKind) → All (λ k. k.code ≡ code) (keys_on t code o)
+  code_told : (code : ℕ) (o : Option PageKind) → AllByRecursion (λ k. k.code ≡ code) (keys_on t code o)
   code_told code None = tt
   code_told code (Some kind) =
       all_joined _ (λ k. k.code ≡ code) (members (participants_of t)) (λ p _.
@@ -95,7 +95,7 @@ module _ (t : Terms) where
       once_joined _ (λ e. e.0) (λ k. k.code) (λ e. code_told e.0 (kind e)) (λ e. code_once e.0 (kind e))
       (table_of t.year t.month) (once_ascending (table_of t.year t.month) (tariff_sound t.year t.month).orderly.ascending)
 
-apart_keys : (k : Key) (ks : List Key) → All (λ q. k ≡ q → ⊥) ks → All (λ q. same k q ≡ false) ks
+apart_keys : (k : Key) (ks : List Key) → AllByRecursion (λ q. k ≡ q → ⊥) ks → AllByRecursion (λ q. same k q ≡ false) ks
 apart_keys k ks h = All-weaker (λ q. k ≡ q → ⊥) (λ q. same k q ≡ false) (λ q ne. ⊎_elim (λ e. absurd (ne (same_key k q e))) (λ e. e) (cases_Bool (same k q))) ks h
 
 distinct_once : (ks : List Key) → Once ks → distinct ks

@@ -1,6 +1,6 @@
 -- The granted questions of a level can be listed: the list that is given has each of them, once, and no other.
 use Rattle.std.proofs.Common.{◌≡◌, ℕ, Bool, true, cond, eqb, List, [], ◌∷◌, map, is_some, Some, None, Option, sym, refl, ap, ◌∙◌, subst, inl, inr, ⊎_elim, arith}
-use Rattle.std.specs.List.{flat_map, AllByRecursion as All}
+use Rattle.std.specs.List.{flat_map, AllByRecursion}
 use Rattle.std.specs.Option.{option_flatten, option_map}
 use Rattle.std.proofs.ByRecursion.{All-map, All-weaker}
 use Rattle.std.proofs.lemmas.Bool.{and_from, cases_Bool, eqb-true, false≢true}
@@ -47,7 +47,7 @@ month_has t d = grind arith
 
 -- a question for each participant and each page of a kind
 module _ (t : Terms) (ask : ℕ → ℕ → Question) where
-  all_on_pages : (P : Question → Type 0) (kind : Option PageKind) → ((p d : ℕ) → takes_part t p ≡ true → on_page t kind d ≡ true → P (ask p d)) → All P (on_pages t kind ask)
+  all_on_pages : (P : Question → Type 0) (kind : Option PageKind) → ((p d : ℕ) → takes_part t p ≡ true → on_page t kind d ≡ true → P (ask p d)) → AllByRecursion P (on_pages t kind ask)
   all_on_pages P None h = tt
   all_on_pages P (Some kind) h =
       all_joined _ P (members (participants_of t)) (λ p takes.
@@ -134,7 +134,7 @@ module _ (t : Terms) where
       let p = granted_had k (in_table t k.code) (takes_part t k.participant) (stands t k.code k.page k.interval) e in
       keys_has t k (and_from (takes_part t k.participant) (stands t k.code k.page k.interval) p.1 p.2)
 
-  list_granted : (level : Level) → All (λ q. (level_of q ≡ level) × (question_refusal t q ≡ None)) (questions t level)
+  list_granted : (level : Level) → AllByRecursion (λ q. (level_of q ≡ level) × (question_refusal t q ≡ None)) (questions t level)
   unfolding questions
   list_granted subtotals =
       all_joined (λ k. Subtotal System k ∷ Subtotal Adjustment k ∷ []) (λ q. (level_of q ≡ subtotals) × (question_refusal t q ≡ None)) (keys t) (λ k here.

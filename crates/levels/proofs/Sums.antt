@@ -1,6 +1,6 @@
 -- Sums over joined lists and over spans, beyond what the ledger has.
 use Rattle.std.proofs.Common.{◌≡◌, ℕ, zero, suc, ◌+◌, ◌-◌, ◌*◌, ◌^◌, ◌<◌, ◌≤◌, Bool, true, false, cond, ◌&&◌, eqb, leb, List, [], ◌∷◌, map, length, get_or, take, nat_abs, Some, None, Option, sym, refl, ap, ◌∙◌, inl, inr, ⊎_elim, arith}
-use Rattle.std.specs.List.{flat_map, AllByRecursion as All}
+use Rattle.std.specs.List.{flat_map, AllByRecursion}
 use Rattle.std.proofs.ByRecursion.{All-weaker}
 use Rattle.std.proofs.lemmas.List.{get_or_default}
 use Rattle.std.proofs.lemmas.Bool.{and_from, cases_Bool, cases_eq, cond-false, cond-true, le-leb, ne_eqb}
@@ -41,7 +41,7 @@ module _ {X : Type 0} {kind : Kind X} (laws : Laws kind) where
   sum_when true f ys = refl
   sum_when false f ys = sum_nought laws ys
 
-  pub sum_same_all : {Y : Type 0} (f g : Y → X) (ys : List Y) → All (λ y. f y ≡ g y) ys → sum kind f ys ≡ sum kind g ys
+  pub sum_same_all : {Y : Type 0} (f g : Y → X) (ys : List Y) → AllByRecursion (λ y. f y ≡ g y) ys → sum kind f ys ≡ sum kind g ys
   unfolding sum
   sum_same_all f g [] h = refl
   sum_same_all f g (y ∷ ys) h = ap (λ x. kind.joined x (sum kind f ys)) h.0 ∙ ap (kind.joined (g y)) (sum_same_all f g ys h.1)
@@ -77,17 +77,17 @@ module _ {X : Type 0} {kind : Kind X} (laws : Laws kind) where
 
   -- of a list, only one element counts
   module _ {Y : Type 0} (test : Y → Bool) (a : X) where
-    pub sum_missed : (ys : List Y) → All (λ y. test y ≡ false) ys → sum kind (λ y. cond (test y) a kind.nought) ys ≡ kind.nought
+    pub sum_missed : (ys : List Y) → AllByRecursion (λ y. test y ≡ false) ys → sum kind (λ y. cond (test y) a kind.nought) ys ≡ kind.nought
     sum_missed ys h =
         sum_same_all (λ y. cond (test y) a kind.nought) (λ _. kind.nought) ys
         (All-weaker (λ y. test y ≡ false) (λ y. cond (test y) a kind.nought ≡ kind.nought) (λ y e. cond-false (test y) a kind.nought e) ys h)
         ∙ sum_nought laws ys
 
-    pub sum_hit : (y : Y) (ys : List Y) → Once ys → Has ys y → test y ≡ true → All (λ x. test x ≡ true → y ≡ x) ys → sum kind (λ x. cond (test x) a kind.nought) ys ≡ a
+    pub sum_hit : (y : Y) (ys : List Y) → Once ys → Has ys y → test y ≡ true → AllByRecursion (λ x. test x ≡ true → y ≡ x) ys → sum kind (λ x. cond (test x) a kind.nought) ys ≡ a
     unfolding sum
     sum_hit y [] o here met only = absurd here
     sum_hit y (x ∷ ys) o (inl e) met only =
-        let others : All (λ z. test z ≡ false) ys = all_both (λ z. x ≡ z → ⊥) (λ z. test z ≡ true → y ≡ z) (λ z. test z ≡ false) (λ z ne is. ⊎_elim (λ t. absurd (ne (e ∙ is t))) (λ f. f) (cases_Bool (test z))) ys o.0 only.1 in
+        let others : AllByRecursion (λ z. test z ≡ false) ys = all_both (λ z. x ≡ z → ⊥) (λ z. test z ≡ true → y ≡ z) (λ z. test z ≡ false) (λ z ne is. ⊎_elim (λ t. absurd (ne (e ∙ is t))) (λ f. f) (cases_Bool (test z))) ys o.0 only.1 in
         ap (λ z. kind.joined z (sum kind (λ x. cond (test x) a kind.nought) ys)) (cond-true (test x) a kind.nought (ap test e ∙ met))
         ∙ ap (kind.joined a) (sum_missed ys others)
         ∙ nought_right laws a

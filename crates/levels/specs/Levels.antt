@@ -1,6 +1,6 @@
 -- The seven levels of a statement: whatever level is read, its totals add up to all that stands in the month.
 use Rattle.std.specs.Prelude.{◌≡◌, ℕ, ◌⊎◌, List, [], ◌∷◌, map, Some, None, Option, ◌≢◌}
-use Rattle.std.specs.List.{flat_map, AllByRecursion as All}
+use Rattle.std.specs.List.{flat_map, AllByRecursion}
 use Rattle.ledger.specs.Kinds.{cents}
 use Rattle.ledger.specs.Layers.{Layer, layered}
 use Rattle.ledger.specs.Totals.{members, span, sum}
@@ -43,11 +43,11 @@ Has (y ∷ ys) x = (y ≡ x) ⊎ Has ys x
 -- nothing stands in it twice
 abbrev pub Once : {X : Type 0} → List X → Type 0
 Once [] = Unit {0}
-Once (y ∷ ys) = All (λ x. y ≢ x) ys × Once ys
+Once (y ∷ ys) = AllByRecursion (λ x. y ≢ x) ys × Once ys
 
 -- a list has each granted question of a level, once, and no other
 pub record Every (t : Terms) (level : Level) (qs : List Question) : Type 0 where
-  pub granted : All (λ q. (level_of q ≡ level) × (question_refusal t q ≡ None)) qs
+  pub granted : AllByRecursion (λ q. (level_of q ≡ level) × (question_refusal t q ≡ None)) qs
   pub each : (q : Question) → level_of q ≡ level → question_refusal t q ≡ None → Has qs q
   pub once : Once qs
 

@@ -3,7 +3,7 @@
 use Rattle.std.proofs.Common.{◌≡◌, ℕ, ◌-◌, ◌<◌, ◌≤◌, true, cond, ◌&&◌, eqb, leb, get_or, refl, arith, lit≤}
 use Rattle.std.proofs.ByRecursion.{All-get_or}
 use Rattle.std.proofs.lemmas.Bool.{and_parts, cond_both, leb-true}
-use Rattle.std.specs.List.{AllByRecursion as All}
+use Rattle.std.specs.List.{AllByRecursion}
 use Rattle.tariff.proofs.Tested.{at_each}
 use Rattle.tariff.specs.Calendar.{is_leap, lengths, month_length}
 use Rattle.tariff.specs.Ranges.{within}
@@ -11,7 +11,7 @@ use Rattle.tariff.specs.Ranges.{within}
 abbrev Short : ℕ → Type 0
 Short days = days ≤ 31
 
-each_short : All (λ d. leb d 31 ≡ true) lengths
+each_short : AllByRecursion (λ d. leb d 31 ≡ true) lengths
 each_short = at_each (λ d. leb d 31) (λ _. true) lengths refl
 
 in_table : (k : ℕ) → k < 12 → Short (get_or lengths k 0)

@@ -3,7 +3,7 @@
 use Rattle.std.proofs.Common.{◌≡◌, ℕ, zero, suc, ◌<◌, Bool, true, ◌&&◌, ltb, List, [], ◌∷◌, length, Some, ⊎_elim, le_of_suc-le-suc, not-suc-le-zero, arith}
 use Rattle.std.proofs.ByRecursion.{All-from_get_or}
 use Rattle.std.proofs.lemmas.Bool.{and_parts, cases_order, ltb-true}
-use Rattle.std.specs.List.{AllByRecursion as All}
+use Rattle.std.specs.List.{AllByRecursion}
 use Rattle.tariff.proofs.Lookup.{found_at}
 use Rattle.tariff.specs.Charges.{Ascending, Entry, Once, Orderly, code_at, group_in}
 
@@ -39,7 +39,7 @@ module _ (is_group : ℕ → Bool) where
   ascends low (e ∷ es) passed (suc i) (suc j) lt h =
       ascends e.0 es (parts low e es passed).rest i j (le_of_suc-le-suc lt) (le_of_suc-le-suc h)
 
-  all_grouped : (low : ℕ) (es : List Entry) → in_order is_group low es ≡ true → All (λ e. is_group e.1 ≡ true) es
+  all_grouped : (low : ℕ) (es : List Entry) → in_order is_group low es ≡ true → AllByRecursion (λ e. is_group e.1 ≡ true) es
   all_grouped low [] passed = tt
   all_grouped low (e ∷ es) passed = let p = parts low e es passed in (p.group, all_grouped e.0 es p.rest)
 
@@ -47,7 +47,7 @@ once : (table : List Entry) → Ascending table → Once table
 once table up i j hi hj same =
     ⊎_elim (λ e. e) (⊎_elim (λ lt. absurd (omega (arith, up i j lt hj))) (λ gt. absurd (omega (arith, up j i gt hi)))) (cases_order i j)
 
-each_found : (table : List Entry) → Ascending table → All (λ e. group_in table e.0 ≡ Some e.1) table
+each_found : (table : List Entry) → Ascending table → AllByRecursion (λ e. group_in table e.0 ≡ Some e.1) table
 each_found table up =
     All-from_get_or (λ e. group_in table e.0 ≡ Some e.1) table (0, 0) (λ k lt. found_at table up k lt)
 

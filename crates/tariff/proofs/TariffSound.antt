@@ -1,7 +1,7 @@
 -- The tariff of every month fits together. Each part rests on a list that is computed over the whole table, or over all
 -- numbers of groups. Assumes nothing.
 use Rattle.std.proofs.Common.{◌≡◌, ℕ, ◌<◌, false, eqb, ltb, length, is_some, IsSomeAnd, Some, count_by, sym, refl, ap, ◌∙◌, arith}
-use Rattle.std.specs.List.{AllByRecursion as All}
+use Rattle.std.specs.List.{AllByRecursion}
 use Rattle.tariff.proofs.Present.{charges_orderly, no_codes_past, no_group_past}
 use Rattle.tariff.proofs.Tested.{at_each, at_every}
 use Rattle.tariff.specs.Charges.{Orderly, codes_in, group_in}
@@ -31,7 +31,7 @@ with_codes =
     at_every (λ g. ltb 0 (length (codes_in charges g))) in_use 37 refl
     (λ g past. ap (λ codes. ltb 0 (length codes)) (no_codes_past g past) ∙ sym (no_group_past g past))
 
-listed : (parent : Parent) → All (λ g. parent_with g ≡ Some parent) (groups_with parent)
+listed : (parent : Parent) → AllByRecursion (λ g. parent_with g ≡ Some parent) (groups_with parent)
 listed DailyRounded = at_each parent_with (λ _. Some DailyRounded) (groups_with DailyRounded) refl
 listed Monthly = at_each parent_with (λ _. Some Monthly) (groups_with Monthly) refl
 listed DailyUnrounded = at_each parent_with (λ _. Some DailyUnrounded) (groups_with DailyUnrounded) refl

@@ -1,7 +1,7 @@
 -- What a table of charge codes says, whatever table it is: the group of a code, the codes of a group, and the rule that
 -- every table keeps.
 use Rattle.std.specs.Prelude.{◌≡◌, ℕ, ◌<◌, Bool, true, cond, List, [], ◌∷◌, map, length, Some, None, filter, Option, ◌==◌, nat_eq, slice_index_or}
-use Rattle.std.specs.List.{AllByRecursion as All}
+use Rattle.std.specs.List.{AllByRecursion}
 
 -- an entry: a charge code and its group
 abbrev pub Entry : Type 0
@@ -33,5 +33,5 @@ pub record Orderly (is_group : ℕ → Bool) (table : List Entry) : Type 0 where
   pub ascending : Ascending table
   pub once : Once table
   -- the group that is found for a code is that of its entry
-  pub found : All (λ e. group_in table e.0 ≡ Some e.1) table
-  pub grouped : All (λ e. is_group e.1 ≡ true) table
+  pub found : AllByRecursion (λ e. group_in table e.0 ≡ Some e.1) table
+  pub grouped : AllByRecursion (λ e. is_group e.1 ≡ true) table

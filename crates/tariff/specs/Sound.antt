@@ -1,7 +1,7 @@
 -- The tariff of a month fits together: its table, its groups, their parents, and the codes that have a part of their own.
 -- Callers may lean on every part of it.
 use Rattle.std.specs.Prelude.{◌≡◌, ℕ, false, List, ◌++◌, length, is_some, IsSomeAnd, Some, count_by, nat_eq, nat_lt}
-use Rattle.std.specs.List.{AllByRecursion as All}
+use Rattle.std.specs.List.{AllByRecursion}
 use Rattle.tariff.specs.Charges.{Orderly}
 use Rattle.tariff.specs.Month.{codes_of, group_of, groups_of, is_group, is_neutral, kind_of_code, parent_of, table_of}
 use Rattle.tariff.specs.Pages.{allocation_code, allocation_group, rounding_code}
@@ -20,9 +20,9 @@ pub record Sound (year month : ℕ) : Type 0 where
   -- just the groups have a parent
   pub with_parent : (group : ℕ) → is_some (parent_of year month group) ≡ is_group year month group
   -- the groups of a parent have that parent
-  pub listed : (parent : Parent) → All (λ g. parent_of year month g ≡ Some parent) (groups_of year month parent)
+  pub listed : (parent : Parent) → AllByRecursion (λ g. parent_of year month g ≡ Some parent) (groups_of year month parent)
   -- each code's group stands once among the groups of all parents
-  pub one_parent : All (λ e. count_by (nat_eq e.1) (every_group year month) ≡ 1) (table_of year month)
+  pub one_parent : AllByRecursion (λ e. count_by (nat_eq e.1) (every_group year month) ≡ 1) (table_of year month)
   -- just the groups have codes
   pub with_codes : (group : ℕ) → nat_lt 0 (length (codes_of year month group)) ≡ is_group year month group
   -- a rounding code stands on the pages that it rounds, and in no neutral group
