@@ -12,7 +12,7 @@ ghost use Rattle.ledger.specs.Totals.{total as total_of};
 
 use crate::adjust_fault::AdjustFault;
 use crate::adjustment::Adjustment;
-use crate::amount::{Amount, Amount as _};
+use crate::amount::Amount;
 use crate::book::{Book, MOST_LINES};
 use crate::cents::Cents;
 use crate::entries::total_of;

@@ -1,7 +1,6 @@
 -- Finding a total over a scope: code by code, each by one question.
-use Rattle.std.proofs.Common.{◌≡◌, ℕ, ◌≤◌, Bool, true, false, cond, ◌&&◌, List, [], ◌∷◌, map, Some, None, Option, sym, refl, ap, ◌∙◌, arith}
+use Rattle.std.proofs.Common.{◌≡◌, ℕ, Bool, true, false, cond, ◌&&◌, List, [], ◌∷◌, map, Some, None, Option, sym, refl, ap, ◌∙◌, arith}
 use Rattle.std.specs.List.{flat_map, AllByRecursion}
-use Rattle.std.proofs.lemmas.Bool.{cond-true}
 use Rattle.ledger.specs.Keys.{key_of}
 use Rattle.ledger.specs.Kinds.{cents}
 use Rattle.ledger.specs.Lawful.{cents_laws}
@@ -21,7 +20,7 @@ use Rattle.levels.specs.Scopes.{chosen, chooses, chosen_in, covers, meets, total
 use Rattle.levels.specs.Terms.{Terms, code_keys, intervals_on, keys, keys_on, pages_of, participants_of}
 use Rattle.levels.specs.Workings.{each_intervals, found_in, found_on, found_where, narrowed}
 use Rattle.levels.specs.declared.scope.Scope.{Scope}
-use Rattle.levels.proofs.Sums.{cond_and, has_narrowed, sum_each, sum_map, sum_narrowed, sum_same_all, sum_same_members, sum_when}
+use Rattle.levels.proofs.Sums.{sum_each, sum_map, sum_narrowed, sum_same_all, sum_same_members, sum_when}
 
 -- every day of the month has as many intervals as the first
 pub alike_days : (t : Terms) (kind : PageKind) (d : ℕ) → has (pages_of t kind) d ≡ true → intervals_on t kind d ≡ each_intervals t kind

@@ -1,5 +1,5 @@
 -- The names that a script can use: of commands, of share rules and of paths.
-use Rattle.std.specs.Prelude.{ℕ, Bool, cond, List, Some, None, codes, Option}
+use Rattle.std.specs.Prelude.{ℕ, cond, List, Some, None, codes, Option}
 use Rattle.std.specs.Str.{bytes_eq}
 use Rattle.script.specs.declared.command.Path.{Path}
 use Rattle.script.specs.declared.command.Path.TheVariants.{System, Adjustment}

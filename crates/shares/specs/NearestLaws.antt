@@ -1,5 +1,5 @@
 -- Nearest is fair, and rounds to the nearest cent.
-use Rattle.std.specs.Prelude.{◌≡◌, ℕ, ◌+◌, ◌*◌, ◌<◌, ℤ, pos, ◌*ℤ◌, int_lt, unsigned_abs}
+use Rattle.std.specs.Prelude.{◌≡◌, ℕ, ◌+◌, ◌*◌, ◌<◌, pos, ◌*ℤ◌, int_lt, unsigned_abs}
 use Rattle.std.proofs.Common.{ap, ◌∙◌, arith, mul-zero, mul_assoc}
 use Rattle.std.proofs.Math.Nat.{lt-mul-div-succ, mul-div-le, div-zero, div-eq_of_lt}
 use Rattle.std.proofs.lemmas.Int.{ints}

@@ -1,5 +1,5 @@
 -- Largest remainder is fair and exact.
-use Rattle.std.specs.Prelude.{◌≡◌, ℕ, ◌+◌, ◌-◌, ◌*◌, ◌/◌, ◌%◌, ◌<◌, ◌≤◌, cond, ltb, List, [], ◌∷◌, map, length, take, ℤ, pos, sum_by, ◌≢◌, nat_le, nat_lt, slice_index, slice_index_or, unsigned_abs, refl}
+use Rattle.std.specs.Prelude.{◌≡◌, ℕ, ◌+◌, ◌*◌, ◌/◌, ◌%◌, ◌<◌, ◌≤◌, cond, ltb, List, [], ◌∷◌, map, length, take, ℤ, pos, sum_by, ◌≢◌, nat_le, nat_lt, slice_index, slice_index_or, unsigned_abs, refl}
 use Rattle.std.proofs.Common.{sym, ap, ◌∙◌, ⊎_elim, arith, mul-add, mul_comm, mul-le-mul_left, mul-zero, zero-mul}
 use Rattle.std.proofs.Math.Nat.{div-add-mod, div-zero, le_of_mul-le-mul_left, mul-sub, zero-div, zero-mod}
 use Rattle.std.proofs.lemmas.Nat.{mod_below}

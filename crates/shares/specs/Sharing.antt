@@ -1,7 +1,6 @@
 -- Shares by their sizes: what of the sizes makes a rule fair, and what makes it exact.
 use Rattle.std.specs.Prelude.{◌≡◌, ℕ, zero, suc, ◌+◌, ◌*◌, ◌<◌, Bool, true, false, List, map, length, ℤ, pos, negsuc, ◌+ℤ◌, ◌<ℤ◌, int_lt, unsigned_abs, refl}
 use Rattle.std.proofs.Common.{sym, ap, ◌∙◌, arith, add-one}
-use borrow.Author.Differences.{up}
 use Rattle.std.specs.List.{range_with_len}
 use Rattle.std.proofs.lemmas.List.FromFn.{length-map-range_with_len, get_or-map-range_with_len, map-range_with_len_more}
 use Rattle.std.proofs.lemmas.Int.{ints}

@@ -1,4 +1,4 @@
-use Rattle.std.proofs.Common.{◌≡◌, Option, sym, ap, ◌∙◌}
+use Rattle.std.proofs.Common.{sym, ap, ◌∙◌}
 use Rattle.script.proofs.Weights.{all_signed_word, all_signed_none}
 use Rattle.script.specs.Readings.{ahead, given, all_signed}
 use Rattle.text.proofs.Cutting.{after_word_shorter}

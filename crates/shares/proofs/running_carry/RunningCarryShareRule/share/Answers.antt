@@ -1,5 +1,5 @@
-use Rattle.std.proofs.Common.{◌≡◌, ◌+◌, ◌-◌, length, take, ap, ◌∙◌, arith, w64, SFits, rules}
-use Rattle.shares.specs.RunningCarry.{running, carry_size, running_carry}
+use Rattle.std.proofs.Common.{◌≡◌, ◌+◌, length, take, ap, ◌∙◌, arith, w64, SFits, rules}
+use Rattle.shares.specs.RunningCarry.{carry_size, running_carry}
 use Rattle.shares.specs.Sizes.{whole}
 use Rattle.shares.specs.Weights.{at}
 use Rattle.shares.specs.Workings.{carried}
