@@ -1,2 +1,2 @@
 pub mod Cutting
-mod Reading
+pub mod Reading

@@ -1,40 +1,24 @@
 // Whole numbers in decimal, as a script writes them and as an answer shows them.
 // A `-` stands before a negative number; there is no `+` and no other sign in a number.
-ghost use Rattle.std.specs.Prelude.{◌≡◌, ◌+◌, ◌%◌, ◌^◌, ◌≤◌, [], ◌∷◌, ◌++◌, pos, neg_ℤ, IfSome, decimal, OnOk};
+ghost use Rattle.std.specs.Prelude.{◌≡◌, ◌-◌, ◌^◌, ◌++◌, decimal, OnOk};
 ghost use Rattle.std.specs.Fmt.{signed_decimal};
-ghost use Rattle.text.specs.Numbers.{digit, numeral, unsigned_number, signed_number};
+ghost use Rattle.text.specs.Numbers.{numeral, unsigned_number, signed_number};
 
-use crate::word::without_first;
+use itoa::Buffer;
 use std::alloc::AllocError;
 
-fn is_digit(byte: u8) -> bool
-    ensures { result ≡ digit byte }
-{
-    b'0' <= byte && byte <= b'9'
-}
-
-// The number that the digits write, where it is at most `most`.
-fn read_numeral(word: &[u8], most: u64) -> Option<u64>
-    requires { most ≤ 2 ^ 63 }
-    ensures value { result ≡ numeral most word.now }
-    ensures bound { IfSome result (λ n. n ≤ most) }
+// The number that the digits write, where it fits 64 bits.
+#[tactic(auto, using(crate::proofs::Reading::reading))]
+fn read_numeral(word: &[u8]) -> Option<u64>
+    ensures { result ≡ numeral (2 ^ 64 - 1) word.now }
 {
     if word.is_empty() {
         return None;
     }
     let mut number: u64 = 0;
     for byte in word {
-        if !is_digit(*byte) {
-            return None;
-        }
-        // a number beyond a tenth of the limit passes the limit with one digit more
-        if number > most / 10 {
-            return None;
-        }
-        number = number * 10 + (*byte - b'0') as u64;
-        if number > most {
-            return None;
-        }
+        let digit = char::from(*byte).to_digit(10)?;
+        number = number.checked_mul(10)?.checked_add(u64::from(digit))?;
     }
     Some(number)
 }
@@ -43,60 +27,31 @@ fn read_numeral(word: &[u8], most: u64) -> Option<u64>
 pub fn read_unsigned(word: &[u8]) -> Option<u32>
     ensures { result ≡ unsigned_number word.now }
 {
-    let number = read_numeral(word, u32::MAX as u64)?;
-    Some(number as u32)
-}
-
-// The number below 0 of that size; the lowest one has no counterpart above 0.
-fn negated(size: u64) -> i64
-    requires { size ≤ 2 ^ 63 }
-    ensures { result ≡ neg_ℤ (pos size) }
-{
-    if size == 0 {
-        0
-    } else {
-        -((size - 1) as i64) - 1
-    }
+    u32::try_from(read_numeral(word)?).ok()
 }
 
 // The number of a word that writes one of 64 bits with a sign.
 pub fn read_signed(word: &[u8]) -> Option<i64>
     ensures { result ≡ signed_number word.now }
 {
-    match word.first() {
-        Some(b'-') => Some(negated(read_numeral(without_first(word), 1 << 63)?)),
-        _ => Some(read_numeral(word, i64::MAX as u64)? as i64),
+    match word {
+        // the lowest number has no counterpart above 0
+        [b'-', digits @ ..] => 0i64.checked_sub_unsigned(read_numeral(digits)?),
+        digits => i64::try_from(read_numeral(digits)?).ok(),
     }
 }
 
-fn last_digit(number: u64) -> u8
-    ensures { result ≡ 48 + number % 10 }
-{
-    b'0' + (number % 10) as u8
-}
-
+// Two names for one call: a generic one would put the trait of `itoa` before the callers.
 pub fn push_unsigned(out: &mut Vec<u8>, number: u64) -> Result<(), AllocError>
     ensures { OnOk result (out.new.items ≡ out.old.items ++ decimal number) }
 {
-    if number >= 10 {
-        push_unsigned(out, number / 10)?;
-    }
-    out.push(last_digit(number))?;
-    Ok(())
-}
-
-fn push_minus(out: &mut Vec<u8>) -> Result<(), AllocError>
-    ensures { OnOk result (out.new.items ≡ out.old.items ++ 45 ∷ []) }
-{
-    out.push(b'-')?;
-    Ok(())
+    let mut digits = Buffer::new();
+    out.extend_from_slice(digits.format(number).as_bytes())
 }
 
 pub fn push_signed(out: &mut Vec<u8>, number: i64) -> Result<(), AllocError>
     ensures { OnOk result (out.new.items ≡ out.old.items ++ signed_decimal number) }
 {
-    if number < 0 {
-        push_minus(out)?;
-    }
-    push_unsigned(out, number.unsigned_abs())
+    let mut sign_and_digits = Buffer::new();
+    out.extend_from_slice(sign_and_digits.format(number).as_bytes())
 }

@@ -1,7 +1,7 @@
 // Lines of a text and words of a line, as parts of the bytes that hold them.
 // A line ends at a line feed or at the end of the text. Words are parted by blanks, and `#` begins
 // a comment, which has no words.
-ghost use Rattle.std.specs.Prelude.{◌≡◌, ℕ, ◌≤◌, Bool, length, drop};
+ghost use Rattle.std.specs.Prelude.{◌≡◌, ◌≤◌, length};
 ghost use Rattle.std.specs.Option.{option_map};
 ghost use Rattle.std.specs.List.{prefix_len};
 ghost use Rattle.std.specs.Str.{bytes_eq};
@@ -9,67 +9,44 @@ ghost use Rattle.text.specs.Taking.{TakesWord, TakesLine, to_come};
 ghost use Rattle.text.specs.Words.{blank, in_word, in_line, next_word, after_word, next_line, after_line};
 ghost use Rattle.std.specs.Iterator.{at_most};
 
-// A class of bytes.
-trait Class {
-    ghost member: { ℕ → Bool };
-
-    fn has(byte: u8) -> bool
-        ensures { result ≡ member byte };
+fn is_blank(byte: u8) -> bool
+    ensures { result ≡ blank byte }
+{
+    matches!(byte, b' ' | b'\t' | b'\r')
 }
 
-struct Blank;
-
-impl Class for Blank {
-    ghost member = { blank };
-
-    fn has(byte: u8) -> bool {
-        byte == b' ' || byte == b'\t' || byte == b'\r'
-    }
+fn is_in_word(byte: u8) -> bool
+    ensures { result ≡ in_word byte }
+{
+    // nearly every byte of a word stands above the comment's mark
+    byte > b'#' || (byte != b'#' && !is_blank(byte))
 }
 
-struct InWord;
+// Of the three lengths each is one call of std: a shared function would take the test as a closure,
+// and its contract would be longer than the three.
 
-impl Class for InWord {
-    ghost member = { in_word };
-
-    fn has(byte: u8) -> bool {
-        // nearly every byte of a word stands above the comment's mark
-        byte > b'#' || (byte != b'#' && !Blank::has(byte))
-    }
-}
-
-struct InLine;
-
-impl Class for InLine {
-    ghost member = { in_line };
-
-    fn has(byte: u8) -> bool {
-        byte != b'\n'
-    }
-}
-
-// How many bytes of the class the text begins with.
-fn leading_bytes<C: Class>(text: &[u8]) -> usize
-    ensures value { result ≡ prefix_len C.Class.member text.now }
+// How many blanks a text begins with.
+fn blanks_length(text: &[u8]) -> usize
+    ensures value { result ≡ prefix_len blank text.now }
     ensures within { result ≤ length text.now }
 {
-    for (i, byte) in text.iter().enumerate() {
-        if !C::has(*byte) {
-            return i;
-        }
-    }
-    text.len()
+    text.iter().take_while(|byte| is_blank(**byte)).count()
 }
 
-// All bytes but the first.
-pub fn without_first(text: &[u8]) -> &[u8]
-    ensures { result.now ≡ drop 1 text.now }
+// How long the word is that a text begins with.
+fn word_length(text: &[u8]) -> usize
+    ensures value { result ≡ prefix_len in_word text.now }
+    ensures within { result ≤ length text.now }
 {
-    if text.is_empty() {
-        text
-    } else {
-        &text[1..text.len()]
-    }
+    text.iter().take_while(|byte| is_in_word(**byte)).count()
+}
+
+// How long the line is that a text begins with, without its line feed.
+fn line_length(text: &[u8]) -> usize
+    ensures value { result ≡ prefix_len in_line text.now }
+    ensures within { result ≤ length text.now }
+{
+    text.iter().take_while(|byte| **byte != b'\n').count()
 }
 
 // Whether a word is spelt so.
@@ -80,6 +57,7 @@ pub fn is_spelt(word: &[u8], text: &str) -> bool
 }
 
 // The words of one line that are still to come.
+// No chain of std's `split` stands here: callers' contracts speak of the bytes to come, which it hides.
 #[derive(Clone, Copy)]
 pub struct Words<'a> {
     rest: &'a [u8],
@@ -92,12 +70,13 @@ impl<'a> Words<'a> {
         Words { rest: line }
     }
 
+    // The same as `next`, for callers that take a word here and there: two plain clauses say what it does.
     pub fn next_word(&mut self) -> Option<&'a [u8]>
         ensures word { option_map (λ x. x.now) result ≡ next_word (to_come self.old) }
         ensures rest { to_come self.new ≡ after_word (to_come self.old) }
     {
-        let (_, text) = self.rest.split_at(leading_bytes::<Blank>(self.rest));
-        let (word, rest) = text.split_at(leading_bytes::<InWord>(text));
+        let text = &self.rest[blanks_length(self.rest)..];
+        let (word, rest) = text.split_at(word_length(text));
         self.rest = rest;
         if word.is_empty() { None } else { Some(word) }
     }
@@ -138,19 +117,6 @@ impl<'a> Lines<'a> {
             passed: 0,
         }
     }
-
-    fn next_line(&mut self) -> Option<&'a [u8]>
-        ensures line { option_map (λ x. x.now) result ≡ next_line self.old.rest.now }
-        ensures rest { self.new.rest.now ≡ after_line self.old.rest.now }
-        ensures passed { self.new.passed ≡ self.old.passed }
-    {
-        if self.rest.is_empty() {
-            return None;
-        }
-        let (line, rest) = self.rest.split_at(leading_bytes::<InLine>(self.rest));
-        self.rest = without_first(rest);
-        Some(line)
-    }
 }
 
 impl<'a> Iterator for Lines<'a> {
@@ -161,7 +127,12 @@ impl<'a> Iterator for Lines<'a> {
     ghost remaining = { λ s. at_most (length s.rest.now) };
 
     fn next(&mut self) -> Option<Line<'a>> {
-        let text = self.next_line()?;
+        if self.rest.is_empty() {
+            return None;
+        }
+        let (text, rest) = self.rest.split_at(line_length(self.rest));
+        self.rest = rest.get(1..).unwrap_or_default();
+        // `enumerate` would count from 0, and leave the number beside the line
         self.passed = self.passed.saturating_add(1);
         Some(Line {
             number: self.passed,
