@@ -1,7 +1,13 @@
--- Searching a table for a code: when its group is found, when there is none, and how one look at a table that ascends
--- narrows the places down. Assumes nothing.
-use Rattle.std.proofs.Common.{◌≡◌, ℕ, zero, suc, ◌+◌, ◌<◌, ◌≤◌, List, [], ◌∷◌, length, get_or, Some, None, refl, ⊎_elim, suc-le-suc, zero-le, le_of_suc-le-suc, not-suc-le-zero, arith}
+-- Searching a table for a code: when its group is found, when there is none, and what a binary search of a table that
+-- ascends says. Assumes nothing.
+use Rattle.std.proofs.Common.{◌≡◌, ℕ, zero, suc, ◌<◌, ◌≤◌, List, [], ◌∷◌, length, get_or, Some, None, Result, Ok, Err, IfOk, IfErr, refl, sym, ap, ⊎_elim, suc-le-suc, zero-le, le_of_suc-le-suc, not-suc-le-zero, arith}
 use Rattle.std.proofs.lemmas.Bool.{cases_lt, eq-eqb, ne_eqb}
+use Rattle.std.proofs.lemmas.Bool.Decides.{nat_tests}
+use Rattle.std.proofs.lemmas.Cmp.{ranked}
+use Rattle.std.proofs.lemmas.List.Sorted.{IsNonDecreasingBy-from_default}
+use Rattle.std.specs.List.Sorted.{IsBinarySearchResult, IsNonDecreasingBy, IsSearchInRange}
+use Rattle.std.specs.Ordering.{nat_cmp, ordering_index}
+use Rattle.std.specs.declared.cmp.Ordering.{Ordering}
 use Rattle.tariff.specs.Charges.{Ascending, Entry, code_at, group_in}
 
 -- the group at a place of the table
@@ -26,40 +32,29 @@ module _ (code : ℕ) where
       rw (ne_eqb e.0 code (absent 0 (suc-le-suc zero-le))) (not_found es (λ k lt. absent (suc k) (suc-le-suc lt)))
 
 -- in a table that ascends, the group of each entry is found for its code
-pub found_at : (table : List Entry) → Ascending table → (k : ℕ) → k < length table → group_in table (code_at table k) ≡ Some (group_at table k)
-found_at table up k lt = found_first (code_at table k) table k lt refl (λ i before same. omega (arith, up i k before lt))
+pub found_at : (table : List Entry) (code k : ℕ) → Ascending table → k < length table → code_at table k ≡ code → group_in table code ≡ Some (group_at table k)
+found_at table code k up lt here = found_first code table k lt here (λ i before same. omega (arith, up i k before lt))
 
--- the code can stand only from `low` on and before `high`
-pub record Narrowed (table : List Entry) (code low high : ℕ) : Type 0 where
-  pub order : low ≤ high
-  pub inside : high ≤ length table
-  pub less : (k : ℕ) → k < low → code_at table k < code
-  pub more : (k : ℕ) → high ≤ k → k < length table → code < code_at table k
+-- how the code of an entry stands to a code that is looked for
+abbrev pub compared : ℕ → Entry → Ordering
+compared code e = nat_cmp e.0 code
 
-pub nowhere_left : {table : List Entry} {code low high : ℕ} → Narrowed table code low high → high ≤ low → group_in table code ≡ None
-nowhere_left {table} {code} {low} {high} narrow none =
-    not_found code table (λ k lt same.
-    ⊎_elim (λ below. omega (arith, narrow.less k below)) (λ past. omega (arith, narrow.more k (omega arith) lt)) (cases_lt k low))
+-- what a binary search by code says of a table that ascends
+module _ (table : List Entry) (up : Ascending table) (code : ℕ) where
+  rises : IsNonDecreasingBy (λ e. ordering_index (compared code e)) table
+  rises =
+      IsNonDecreasingBy-from_default (λ e. ordering_index (compared code e)) table (0, 0)
+      (λ i j le lt.
+      let codes : code_at table i ≤ code_at table j = grind (arith, up i j, λ (same : i ≡ j). ap (code_at table) same) in
+      grind (arith, nat_tests))
 
--- what a look at a place between the two says
-module _ {table : List Entry} (up : Ascending table) {code low high : ℕ} (narrow : Narrowed table code low high)
-    (mid : ℕ) (from : low ≤ mid) (to : mid < high) where
-  in_table : mid < length table
-  in_table = omega (arith, narrow.inside)
-
-  pub found : code_at table mid ≡ code → group_in table code ≡ Some (group_at table mid)
-  found here = rw here at (found_at table up mid in_table)
-
-  pub upper : code_at table mid < code → Narrowed table code (mid + 1) high
-  upper less = record { order = omega arith; inside = narrow.inside; less = so; more = narrow.more }
+  pub searched : (r : Result ℕ ℕ) → IsSearchInRange r (length table) → IsBinarySearchResult (compared code) table r → record { found : IfOk r (λ place. (place < length table) × (code_at table place ≡ code)); absent : IfErr r (λ _. group_in table code ≡ None) }
+  searched (Ok place) lt equal = record { found = (lt, ranked _ code _ (sym (equal (0, 0)))); absent = tt }
+  searched (Err end) _ parted = record { found = tt; absent = not_found code table nowhere }
     where
-      so : (k : ℕ) → k < mid + 1 → code_at table k < code
-      so k lt =
-          ⊎_elim (λ before. omega (arith, up k mid before in_table)) (λ last. let e : k ≡ mid = omega arith in rw e less) (cases_lt k mid)
-
-  pub lower : code < code_at table mid → Narrowed table code low mid
-  lower more = record { order = from; inside = omega (arith, narrow.inside); less = narrow.less; more = so }
-    where
-      so : (k : ℕ) → mid ≤ k → k < length table → code < code_at table k
-      so k le lt =
-          ⊎_elim (λ after. omega (arith, up mid k after lt)) (λ first. let e : k ≡ mid = omega arith in rw e more) (cases_lt mid k)
+      nowhere : Absent table code (length table)
+      nowhere k lt same =
+          ⊎_elim
+          (λ before. omega (arith, ranked _ code _ (sym ((parted rises).0 k (0, 0) zero-le before))))
+          (λ from. omega (arith, ranked _ code _ (sym ((parted rises).1 k (0, 0) from lt))))
+          (cases_lt k end)

@@ -1,6 +1,6 @@
 -- The rule of a table, by one test over the whole of it: any table that passes is orderly, so a newer one needs only to
 -- be put to the test. Assumes nothing.
-use Rattle.std.proofs.Common.{◌≡◌, ℕ, zero, suc, ◌<◌, Bool, true, ◌&&◌, ltb, List, [], ◌∷◌, length, Some, ⊎_elim, le_of_suc-le-suc, not-suc-le-zero, arith}
+use Rattle.std.proofs.Common.{◌≡◌, ℕ, zero, suc, ◌<◌, Bool, true, ◌&&◌, ltb, List, [], ◌∷◌, length, Some, refl, ⊎_elim, le_of_suc-le-suc, not-suc-le-zero, arith}
 use Rattle.std.proofs.ByRecursion.{All-from_get_or}
 use Rattle.std.proofs.lemmas.Bool.{and_parts, cases_order, ltb-true}
 use Rattle.std.specs.List.{AllByRecursion}
@@ -49,7 +49,7 @@ once table up i j hi hj same =
 
 each_found : (table : List Entry) → Ascending table → AllByRecursion (λ e. group_in table e.0 ≡ Some e.1) table
 each_found table up =
-    All-from_get_or (λ e. group_in table e.0 ≡ Some e.1) table (0, 0) (λ k lt. found_at table up k lt)
+    All-from_get_or (λ e. group_in table e.0 ≡ Some e.1) table (0, 0) (λ k lt. found_at table (code_at table k) k up lt refl)
 
 -- the test gives the rule
 pub orderly : (is_group : ℕ → Bool) (table : List Entry) → in_order is_group 0 table ≡ true → Orderly is_group table

@@ -1,11 +1,11 @@
 -- The tariff of every month fits together. Each part rests on a list that is computed over the whole table, or over all
 -- numbers of groups. Assumes nothing.
-use Rattle.std.proofs.Common.{◌≡◌, ℕ, ◌<◌, false, eqb, ltb, length, is_some, IsSomeAnd, Some, count_by, sym, refl, ap, ◌∙◌, arith}
+use Rattle.std.proofs.Common.{◌≡◌, ℕ, false, eqb, ltb, length, is_some, IsSomeAnd, Some, count_by, sym, refl, ap, ◌∙◌, arith}
 use Rattle.std.specs.List.{AllByRecursion}
 use Rattle.tariff.proofs.Present.{charges_orderly, no_codes_past, no_group_past}
 use Rattle.tariff.proofs.Tested.{at_each, at_every}
 use Rattle.tariff.specs.Charges.{Orderly, codes_in, group_in}
-use Rattle.tariff.specs.Groups.{groups_with, in_use, last_group, parent_with}
+use Rattle.tariff.specs.Groups.{groups_with, in_use, parent_with}
 use Rattle.tariff.specs.Month.{groups_of, is_group, is_neutral, kind_of_code, parent_of, table_of}
 use Rattle.tariff.specs.Pages.{neutral, rounding_code}
 use Rattle.tariff.specs.Sound.{TariffSound, every_group}
@@ -19,12 +19,8 @@ pub table_orderly : (year month : ℕ) → Orderly (is_group year month) (table_
 unfolding is_group table_of
 table_orderly year month = charges_orderly
 
-no_parent_past : (group : ℕ) → last_group < group → is_some (parent_with group) ≡ false
-no_parent_past group past = grind arith
-
 with_parent : (group : ℕ) → is_some (parent_with group) ≡ in_use group
-with_parent =
-    at_every (λ g. is_some (parent_with g)) in_use 37 refl (λ g past. no_parent_past g past ∙ sym (no_group_past g past))
+with_parent group = grind arith
 
 with_codes : (group : ℕ) → ltb 0 (length (codes_in charges group)) ≡ in_use group
 with_codes =

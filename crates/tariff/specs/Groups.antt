@@ -1,8 +1,10 @@
 -- The groups of charge codes and their three parents: which numbers are groups, what number a parent has, and which
 -- groups are whose.
-use Rattle.std.specs.Prelude.{ℕ, Bool, cond, not, ◌&&◌, ◌||◌, List, [], ◌∷◌, Some, None, filter, Option, ◌==◌, nat_eq}
+use Rattle.std.specs.Prelude.{◌≡◌, ℕ, Result, IfErr, Bool, cond, not, ◌&&◌, ◌||◌, List, [], ◌∷◌, Some, None, filter, Option, ◌==◌, nat_eq}
 use Rattle.std.specs.List.{range_with_len}
+use Rattle.std.specs.Result.{result_ok}
 use Rattle.tariff.specs.Ranges.{within}
+use Rattle.tariff.specs.declared.parent.NoSuchParent.{NoSuchParent}
 use Rattle.tariff.specs.declared.parent.Parent.{Parent}
 use Rattle.tariff.specs.declared.parent.Parent.TheVariants.{DailyRounded, DailyUnrounded, Monthly}
 
@@ -24,6 +26,10 @@ parent_number DailyUnrounded = 3
 -- the parent with a number
 abbrev pub parent_numbered : ℕ → Option Parent
 parent_numbered n = first_passing (λ p. nat_eq (parent_number p) n) parents
+
+-- what a number is read as: the parent with it, or else an error that holds the number
+abbrev pub NamesParent : ℕ → Result Parent NoSuchParent → Type 0
+NamesParent n r = (result_ok r ≡ parent_numbered n) × IfErr r (λ e. e.0 ≡ n)
 
 -- the highest number of a group
 abbrev pub last_group : ℕ

@@ -1,8 +1,12 @@
-// The calendar, on plain numbers: the days of a month, and the ten-minute intervals of a day.
-// A trading month asks it about its own year and month.
-ghost use Rattle.std.specs.Prelude.{◌≡◌};
-ghost use Rattle.tariff.specs.Calendar.{is_leap, month_length, intervals_on};
+// The calendar of a trading month: its days, and the ten-minute intervals of a day.
+// One method for each fact that may come to depend on the month.
+ghost use Rattle.std.specs.Prelude.{◌≡◌, ◌≤◌};
+ghost use Rattle.tariff.specs.Calendar.{is_leap};
+ghost use Rattle.tariff.specs.Month.{days_of, intervals_of};
 
+use crate::trading_month::TradingMonth;
+
+// A month's length stands in a table of twelve numbers, as the rules have it.
 const LENGTHS: [u32; 12] = [31, 28, 31, 30, 31, 30, 31, 31, 30, 31, 30, 31];
 
 const HOURS: u32 = 24;
@@ -16,21 +20,32 @@ fn is_leap(year: u32) -> bool
     year % 4 == 0 && (year % 100 != 0 || year % 400 == 0)
 }
 
-// The length of a month; 0 for a number that is no month.
-pub(crate) fn month_length(year: u32, month: u32) -> u32
-    ensures { result ≡ month_length year month }
-{
-    match month {
-        2 if is_leap(year) => 29,
-        1..=12 => LENGTHS[month as usize - 1],
-        _ => 0,
+impl TradingMonth {
+    // The number of its days.
+    #[tactic(auto, using(crate::proofs::Lengths::at_most_31), unfolding(crate::specs::Month::days_of))]
+    pub fn days(self) -> u32
+        ensures value { result ≡ days_of self.year self.month }
+        ensures at_most { result ≤ 31 }
+    {
+        match self.month {
+            2 if is_leap(self.year) => 29,
+            1..=12 => LENGTHS[self.month as usize - 1],
+            _ => 0,
+        }
     }
-}
 
-pub(crate) fn intervals_on(_year: u32, _month: u32, _day: u32) -> u32
-    ensures { result ≡ intervals_on _year _month _day }
-{
-    HOURS * INTERVALS_PER_HOUR
+    // The number of intervals of one of its days; 0 for a day outside the month.
+    #[tactic(auto, unfolding(crate::specs::Month::intervals_of))]
+    pub fn intervals(self, day: u32) -> u32
+        ensures value { result ≡ intervals_of self.year self.month day }
+        ensures at_most { result ≤ 144 }
+    {
+        if (1..=self.days()).contains(&day) {
+            HOURS * INTERVALS_PER_HOUR
+        } else {
+            0
+        }
+    }
 }
 
 #[cfg(test)]

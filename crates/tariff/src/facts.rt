@@ -1,12 +1,10 @@
-// What a trading month answers: its days and their intervals, its charge codes with their groups and parents, and its pages.
+// What a trading month answers beside its calendar: its charge codes with their groups and parents, and its pages.
 // One method for each fact that may come to depend on the month.
 ghost use Rattle.std.specs.Prelude.{◌≡◌, ◌≤◌, T};
-ghost use Rattle.tariff.specs.Month.{days_of, intervals_of};
 ghost use Rattle.tariff.specs.Month.{codes_of, group_of, table_of};
 ghost use Rattle.tariff.specs.Month.{groups_of, is_neutral, kind_of_code, kind_of_group, parent_of};
 ghost use Rattle.tariff.specs.Month.{is_interval, is_page};
 
-use crate::calendar::{intervals_on, month_length};
 use crate::charges::{codes_in_group, find};
 use crate::page_kind::PageKind;
 use crate::parent::Parent;
@@ -14,27 +12,8 @@ use crate::table::{Entry, charge_table};
 use crate::trading_month::TradingMonth;
 
 impl TradingMonth {
-    // The number of its days.
-    pub fn days(self) -> u32
-        ensures value { result ≡ days_of self.year self.month }
-        ensures at_most { result ≤ 31 }
-    {
-        month_length(self.year, self.month)
-    }
-
-    // The number of intervals of one of its days; 0 for a day outside the month.
-    pub fn intervals(self, day: u32) -> u32
-        ensures value { result ≡ intervals_of self.year self.month day }
-        ensures at_most { result ≤ 144 }
-    {
-        if (1..=self.days()).contains(&day) {
-            intervals_on(self.year, self.month, day)
-        } else {
-            0
-        }
-    }
-
     // Its table of charge codes with their groups, ascending by code.
+    #[tactic(auto, unfolding(crate::specs::Month::table_of))]
     pub fn table(self) -> &'static [Entry]
         ensures { result.now ≡ table_of self.year self.month }
     {
@@ -42,6 +21,7 @@ impl TradingMonth {
     }
 
     // The group of a charge code.
+    #[tactic(auto, using(crate::proofs::TariffSound::table_orderly))]
     pub fn group_of(self, code: u32) -> Option<u32>
         ensures { result ≡ group_of self.year self.month code }
     {
@@ -49,6 +29,7 @@ impl TradingMonth {
     }
 
     // The codes of a group, ascending; none for a number that is no group.
+    #[tactic(auto, unfolding(crate::specs::Month::table_of))]
     pub fn codes_of(self, group: u32) -> &'static [u32]
         ensures { result.now ≡ codes_of self.year self.month group }
     {
@@ -56,6 +37,7 @@ impl TradingMonth {
     }
 
     // The parent of a group.
+    #[tactic(auto, unfolding(crate::specs::Month::parent_of))]
     pub fn parent_of(self, group: u32) -> Option<Parent>
         ensures { result ≡ parent_of self.year self.month group }
     {
@@ -63,6 +45,7 @@ impl TradingMonth {
     }
 
     // The groups of a parent, ascending.
+    #[tactic(auto, unfolding(crate::specs::Month::groups_of))]
     pub fn groups_of(self, parent: Parent) -> &'static [u32]
         ensures { result.now ≡ groups_of self.year self.month parent }
     {
@@ -84,6 +67,7 @@ impl TradingMonth {
     }
 
     // Whether a group is neutral on a kind of page.
+    #[tactic(auto, unfolding(crate::specs::Month::is_neutral))]
     pub fn is_neutral(self, group: u32, kind: PageKind) -> bool
         ensures { result ≡ is_neutral self.year self.month kind group }
     {

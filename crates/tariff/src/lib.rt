@@ -15,7 +15,7 @@ mod tests;
 mod trading_month;
 
 pub use page_kind::PageKind;
-pub use parent::Parent;
+pub use parent::{NoSuchParent, Parent};
 pub use soundness::{constants_agree, tariff_is_sound};
 pub use table::{ALLOCATION_CODE, ALLOCATION_GROUP, Entry, LAST_GROUP};
 pub use trading_month::TradingMonth;

@@ -1,7 +1,7 @@
 // The three parents. Each group of charge codes has one, which says on what kind of page the group stands and whether it
 // takes part in rounding.
-ghost use Rattle.std.specs.Prelude.{◌≡◌, map};
-ghost use Rattle.tariff.specs.Groups.{groups_with, parent_number, parent_numbered, parent_with, parents};
+ghost use Rattle.std.specs.Prelude.{◌≡◌};
+ghost use Rattle.tariff.specs.Groups.{NamesParent, groups_with, parent_number, parent_with};
 ghost use Rattle.tariff.specs.Pages.{kind_of_parent};
 
 use crate::page_kind::PageKind;
@@ -16,40 +16,34 @@ pub enum Parent {
     DailyUnrounded = 3,
 }
 
-const GROUPS_BY_PARENT: [&[u32]; 3] = [
-    &[
-        1, 2, 3, 4, 5, 6, 7, 8, 9, 10, 11, 14, 16, 17, 18, 19, 20, 21, 22, 23, 24, 25, 26,
-    ],
-    &[27, 28, 29, 30, 31, 32, 33, 34, 36],
-    &[12, 13, 15],
-];
+// A number that no parent has.
+#[derive(Clone, Copy, PartialEq, Eq, Debug)]
+pub struct NoSuchParent(pub u32);
 
-// The groups of each parent, in the order of the parents' numbers.
-fn group_rows() -> &'static [&'static [u32]]
-    ensures { map (λ x. x.now) result.now ≡ map groups_with parents }
-{
-    &GROUPS_BY_PARENT
+impl TryFrom<u32> for Parent {
+    type Error = NoSuchParent;
+
+    ghost try_from_gives = { NamesParent };
+
+    fn try_from(number: u32) -> Result<Parent, NoSuchParent> {
+        match number {
+            1 => Ok(Parent::DailyRounded),
+            2 => Ok(Parent::Monthly),
+            3 => Ok(Parent::DailyUnrounded),
+            _ => Err(NoSuchParent(number)),
+        }
+    }
+}
+
+impl From<Parent> for u32 {
+    ghost from_gives = { λ parent n. n ≡ parent_number parent };
+
+    fn from(parent: Parent) -> u32 {
+        parent as u32
+    }
 }
 
 impl Parent {
-    // The parent with a number.
-    pub fn numbered(n: u32) -> Option<Parent>
-        ensures { result ≡ parent_numbered n }
-    {
-        match n {
-            1 => Some(Parent::DailyRounded),
-            2 => Some(Parent::Monthly),
-            3 => Some(Parent::DailyUnrounded),
-            _ => None,
-        }
-    }
-
-    pub fn number(self) -> u32
-        ensures { result ≡ parent_number self }
-    {
-        self as u32
-    }
-
     // The kind of page that its groups stand on.
     pub fn page_kind(self) -> PageKind
         ensures { result ≡ kind_of_parent self }
@@ -76,7 +70,12 @@ impl Parent {
     pub(crate) fn groups(self) -> &'static [u32]
         ensures { result.now ≡ groups_with self }
     {
-        let row = self.number() as usize - 1;
-        group_rows()[row]
+        match self {
+            Parent::DailyRounded => &[
+                1, 2, 3, 4, 5, 6, 7, 8, 9, 10, 11, 14, 16, 17, 18, 19, 20, 21, 22, 23, 24, 25, 26,
+            ],
+            Parent::Monthly => &[27, 28, 29, 30, 31, 32, 33, 34, 36],
+            Parent::DailyUnrounded => &[12, 13, 15],
+        }
     }
 }

@@ -1,6 +1,7 @@
-// The charge codes and their groups, as constants.
-// `CHARGES` is the table: ascending by code, so that a code is found by halving. `CODES_BY_GROUP` is the same table read
-// the other way, so that a group's codes are at hand with no walk. Both are tied to the one table in specs.
+// The charge codes and their groups, as constants, since this crate may not allocate.
+// `CHARGES` is the table: pairs, as the rules list them, ascending by code, so that a code is found by binary search.
+// `CODES_BY_GROUP` is the same table read the other way, so that a group's codes are at hand with no walk. Both are tied
+// to the one table in specs.
 ghost use Rattle.std.specs.Prelude.{◌≡◌, map};
 ghost use Rattle.std.specs.List.{range_with_len};
 ghost use Rattle.tariff.specs.Charges.{codes_in};
@@ -148,7 +149,7 @@ const CHARGES: [Entry; 127] = [
     (69850, 4),
 ];
 
-const CODES_BY_GROUP: [&[u32]; 37] = [
+const CODES_BY_GROUP: [&[u32]; LAST_GROUP as usize + 1] = [
     &[],
     &[1303, 3303],
     &[1001, 1353],

@@ -1,6 +1,6 @@
 // Cases that a person would try at the desk.
 // Each answer was worked out by hand from the rules.
-use crate::{PageKind, Parent, TradingMonth};
+use crate::{NoSuchParent, PageKind, Parent, TradingMonth};
 use std::test::Fail;
 
 fn month(year: u32, month: u32) -> Result<TradingMonth, Fail> {
@@ -85,9 +85,10 @@ fn rounding_stays_out_of_what_it_rounds(rt: HostRuntime) -> Result<(), Fail> {
 
 #[test]
 fn parents_go_by_number(rt: HostRuntime) -> Result<(), Fail> {
-    assert_eq!(rt; Parent::numbered(3), Some(Parent::DailyUnrounded));
-    assert!(rt; Parent::numbered(0).is_none() && Parent::numbered(4).is_none());
-    assert_eq!(rt; Parent::Monthly.number(), 2);
+    assert_eq!(rt; Parent::try_from(3), Ok(Parent::DailyUnrounded));
+    assert_eq!(rt; Parent::try_from(0), Err(NoSuchParent(0)));
+    assert_eq!(rt; Parent::try_from(4), Err(NoSuchParent(4)));
+    assert_eq!(rt; u32::from(Parent::Monthly), 2);
     assert_eq!(rt; month(2026, 4)?.groups_of(Parent::Monthly).len(), 9);
     Ok(())
 }
