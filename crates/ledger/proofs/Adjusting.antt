@@ -1,31 +1,31 @@
 -- Adjusting: what one adjustment more changes in a layer.
-use Rattle.std.proofs.Common.{◌≡◌, ℕ, ◌+◌, ◌<◌, Bool, true, false, ◌||◌, List, [], ◌∷◌, ◌++◌, length, take, set, None, sym, refl, ap, ◌∙◌, arith}
-use Rattle.std.proofs.lemmas.List.{length-take, take_more_set}
+use Rattle.std.proofs.Common.{◌≡◌, ℕ, ◌+◌, ◌-◌, ◌<◌, Bool, true, false, ◌||◌, List, [], ◌∷◌, ◌++◌, length, take, None, sym, refl, ap, ◌∙◌, arith}
+use Rattle.std.proofs.lemmas.List.{length-take, length-append, take_all}
+use Rattle.faults.specs.declared.layer.Layer.TheVariants as tier
 use Rattle.ledger.specs.Amounts.{most_lines}
 use Rattle.ledger.specs.Books.{posted}
-use Rattle.ledger.specs.Keys.{same}
+use Rattle.faults.specs.Keys.{same}
 use Rattle.ledger.specs.Kinds.{cents}
 use Rattle.ledger.specs.Lawful.{cents_laws}
-use Rattle.ledger.specs.Layers.{Layer, most_adjustments, counting, own, adjusted_line, adjusted_at, full, adjust_refusal, Adjusted}
+use Rattle.ledger.specs.Layers.{Layer, own, adjusted_line, adjusted_at, full, adjust_refusal, Adjusted}
 use Rattle.ledger.specs.declared.adjustment.Adjustment.{Adjustment}
 use Rattle.ledger.specs.declared.cents.Cents.{Cents}
-use Rattle.ledger.specs.declared.key.Key.{Key}
+use Rattle.faults.specs.declared.key.Key.{Key}
 use Rattle.ledger.proofs.Appending.{amount_pushed}
 use Rattle.ledger.proofs.Granting.{granted_had}
 
--- it is written behind those held
-pub held_pushed : (entries : List Adjustment) (used lines n : ℕ) (a : Adjustment) → n ≡ length (take (counting used lines) entries) → n < length entries → n < most_adjustments → lines + n < most_lines → take (counting (n + 1) lines) (set entries n a) ≡ take (counting used lines) entries ++ (a ∷ [])
-held_pushed entries used lines n a is place few low =
-    let here : counting used lines ≡ n = omega (arith, is, length-take (counting used lines) entries) in
-    let next : counting (n + 1) lines ≡ n + 1 = omega arith in
-    ap (λ m. take m (set entries n a)) next
-    ∙ take_more_set entries n a place
-    ∙ ap (λ m. take m entries ++ (a ∷ [])) (sym here)
+-- with a line left all that are held count, and so does one more
+pub held_pushed : (entries : List Adjustment) (lines : ℕ) (a : Adjustment) → lines + length (take (most_lines - lines) entries) < most_lines → take (most_lines - lines) (entries ++ (a ∷ [])) ≡ take (most_lines - lines) entries ++ (a ∷ [])
+held_pushed entries lines a few =
+    let n = length-take (most_lines - lines) entries in
+    let all : take (most_lines - lines) entries ≡ entries = take_all (most_lines - lines) entries (omega (arith, n)) in
+    take_all (most_lines - lines) (entries ++ (a ∷ [])) (omega (arith, n, length-append entries (a ∷ [])))
+    ∙ ap (λ es. es ++ (a ∷ [])) (sym all)
 
 -- it adds to the layer's own amounts
 pub own_adjusted : (before after : Layer) (k : Key) (x : Cents) (number : ℕ) → None ≡ adjust_refusal before k x → Adjusted before k x number after → (q : Key) → own after q ≡ posted cents (own before) k x q
 own_adjusted before after k x number granted a q =
-    let allowed = (granted_had cents 2 k x (full before) granted).amount in
+    let allowed = (granted_had cents tier.Adjustments k x (full before) granted).amount in
     ap (λ v. own v q) a.holds
     ∙ amount_pushed cents_laws adjusted_line before.held (record { key = k; amount = x; id = number }) allowed q
 

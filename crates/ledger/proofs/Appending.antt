@@ -2,13 +2,14 @@
 use Rattle.std.proofs.Common.{◌≡◌, ℕ, ◌+◌, ◌-◌, ◌<◌, Bool, true, false, cond, List, [], ◌∷◌, ◌++◌, length, take, set, sym, ap, ◌∙◌, arith}
 use Rattle.std.proofs.lemmas.List.{take_more_set, length-set, length-take-le}
 use Rattle.std.proofs.lemmas.Bool.{cond-true}
+use Rattle.faults.specs.declared.layer.Layer.TheVariants as tier
 use Rattle.ledger.specs.Amounts.{Kind, Laws, most_lines}
 use Rattle.ledger.specs.Books.{Meaning, posted, Posted, Bounded}
 use Rattle.ledger.specs.Journals.{room, standing, journal_means, unused}
-use Rattle.ledger.specs.Keys.{same}
+use Rattle.faults.specs.Keys.{same}
 use Rattle.ledger.specs.Lines.{counted, put, amount_of}
 use Rattle.ledger.specs.Totals.{sum}
-use Rattle.ledger.specs.declared.key.Key.{Key}
+use Rattle.faults.specs.declared.key.Key.{Key}
 use Rattle.ledger.specs.declared.line.Line.{Line}
 use Rattle.ledger.proofs.Bounds.{lines_backed}
 use Rattle.ledger.proofs.Sums.{nought_right, sum_push}
@@ -47,6 +48,6 @@ unfolding sum
 journal_unused {X} kind places =
     let none : standing 0 (length places) ≡ 0 = omega arith in
     let all : room (length places) - 0 ≡ room (length places) = omega arith in
-    let with_lines : ℕ → Meaning X = λ n. record { amount = amount_of kind (λ l. l) (take n places); lines = n; free = room (length places) - n; layer = 3 } in
-    let with_free : ℕ → Meaning X = λ n. record { amount = λ _. kind.nought; lines = 0; free = n; layer = 3 } in
+    let with_lines : ℕ → Meaning X = λ n. record { amount = amount_of kind (λ l. l) (take n places); lines = n; free = room (length places) - n; layer = tier.Book } in
+    let with_free : ℕ → Meaning X = λ n. record { amount = λ _. kind.nought; lines = 0; free = n; layer = tier.Book } in
     ap with_lines none ∙ ap with_free all

@@ -5,10 +5,10 @@ use Rattle.std.proofs.lemmas.List.Sums.{sum_by-cons}
 use Rattle.std.proofs.lemmas.Bool.{cases_Bool, eqb-true, and_parts, cond-false, cond_both}
 use Rattle.ledger.specs.Amounts.{Kind, Laws, most_lines}
 use Rattle.ledger.specs.Books.{Within, Backed}
-use Rattle.ledger.specs.Keys.{key_of, same, distinct}
+use Rattle.faults.specs.Keys.{key_of, same, distinct}
 use Rattle.ledger.specs.Lines.{counted, put, amount_of}
 use Rattle.ledger.specs.Totals.{sum}
-use Rattle.ledger.specs.declared.key.Key.{Key}
+use Rattle.faults.specs.declared.key.Key.{Key}
 use Rattle.ledger.specs.declared.line.Line.{Line}
 use Rattle.ledger.proofs.Sums.{sum_more}
 

@@ -2,9 +2,10 @@
 use Rattle.std.proofs.Common.{◌≡◌, ℕ, Bool, true, false, cond, not, Some, None, refl, arith}
 use Rattle.ledger.specs.Amounts.{Kind}
 use Rattle.ledger.specs.Books.{line_refusals}
-use Rattle.ledger.specs.Faults.{first_met}
-use Rattle.ledger.specs.Keys.{known}
-use Rattle.ledger.specs.declared.key.Key.{Key}
+use Rattle.faults.specs.Faults.{first_met}
+use Rattle.faults.specs.Keys.{known}
+use Rattle.faults.specs.declared.key.Key.{Key}
+use Rattle.faults.specs.declared.layer.Layer.{Layer}
 
 pub record Granted {X : Type 0} (kind : Kind X) (k : Key) (x : X) (full : Bool) : Type 0 where
   pub participant : known k.participant ≡ true
@@ -20,7 +21,7 @@ none_met true true true r s t e = absurd (never t e)
 none_met true false c r s t e = absurd (never s e)
 none_met false b c r s t e = absurd (never r e)
 
-module _ {X : Type 0} (kind : Kind X) (layer : ℕ) (k : Key) (x : X) (full : Bool) where
+module _ {X : Type 0} (kind : Kind X) (layer : Layer) (k : Key) (x : X) (full : Bool) where
   pub granted_had : None ≡ first_met layer k (line_refusals kind k x full) → Granted kind k x full
   granted_had e =
       let p = none_met (known k.participant) (kind.allowed x) full _ _ _ e in

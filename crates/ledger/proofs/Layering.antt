@@ -4,22 +4,24 @@ use Rattle.std.proofs.lemmas.List.{length-take, take_all}
 use Rattle.std.proofs.lemmas.Bool.{cases_lt, lt-leb, eqb-false}
 use Rattle.ledger.specs.Amounts.{most_lines}
 use Rattle.ledger.specs.Books.{posted, Posted, Unchanged, Bounded, line_refusals, post_refusal}
-use Rattle.ledger.specs.Faults.{first_met, answered}
-use Rattle.ledger.specs.Keys.{same}
+use Rattle.faults.specs.Faults.{first_met, answered}
+use Rattle.faults.specs.declared.layer.Layer.{Layer as Tier}
+use Rattle.faults.specs.declared.layer.Layer.TheVariants as tier
+use Rattle.faults.specs.Keys.{same}
 use Rattle.ledger.specs.Kinds.{cents}
 use Rattle.ledger.specs.Lawful.{cents_laws}
-use Rattle.ledger.specs.Layers.{Layer, counting, own, layer_lines, layered, adjusted_line, PostedBelow, Untouched}
+use Rattle.ledger.specs.Layers.{Layer, own, layer_lines, layered, adjusted_line, PostedBelow, Untouched}
 use Rattle.ledger.specs.declared.adjustment.Adjustment.{Adjustment}
 use Rattle.ledger.specs.declared.cents.Cents.{Cents}
-use Rattle.ledger.specs.declared.key.Key.{Key}
-use Rattle.ledger.specs.declared.refusal.Refusal.{Refusal}
+use Rattle.faults.specs.declared.key.Key.{Key}
+use Rattle.faults.specs.declared.refusal.Refusal.{Refusal}
 use Rattle.ledger.proofs.Bounds.{lines_backed, joined_backed}
 use Rattle.ledger.proofs.Granting.{granted_had}
 
 -- below the limit a layer refuses what the book below does, and as that book
 pub refusal_below : (v : Layer) (k : Key) (x : Cents) → layer_lines v < most_lines → post_refusal cents (layered v) k x ≡ post_refusal cents v.below k x
 refusal_below v k x few =
-    let deep : cond {A = ℕ} (leb most_lines (layer_lines v)) 2 v.below.layer ≡ v.below.layer = ap (λ b. cond {A = ℕ} b 2 v.below.layer) (lt-leb most_lines (layer_lines v) few) in
+    let deep : cond {A = Tier} (leb most_lines (layer_lines v)) tier.Adjustments v.below.layer ≡ v.below.layer = ap (λ b. cond {A = Tier} b tier.Adjustments v.below.layer) (lt-leb most_lines (layer_lines v) few) in
     let full : eqb (min v.below.free (most_lines - layer_lines v)) 0 ≡ eqb v.below.free 0 = grind arith in
     ap (λ n. first_met n k (line_refusals cents k x (eqb (layered v).free 0))) deep
     ∙ ap (λ b. first_met v.below.layer k (line_refusals cents k x b)) full
@@ -53,7 +55,7 @@ unchanged_through before after u =
           ∙ ap (λ es. cents.joined (before.below.amount q) (own (record { below = before.below; held = es }) q)) u.as_held;
       as_long = m;
       as_free = omega (arith, m, b.as_free);
-      as_deep = ap (λ n. cond {A = ℕ} (leb most_lines n) 2 after.below.layer) m ∙ ap (λ n. cond {A = ℕ} (leb most_lines (layer_lines before)) 2 n) b.as_deep;
+      as_deep = ap (λ n. cond {A = Tier} (leb most_lines n) tier.Adjustments after.below.layer) m ∙ ap (λ n. cond {A = Tier} (leb most_lines (layer_lines before)) tier.Adjustments n) b.as_deep;
     }
 
 pub layered_bounded : (v : Layer) → Bounded cents v.below → Bounded cents (layered v)
@@ -67,9 +69,9 @@ take_alike m n ys e =
     (cases_lt m (length ys))
 
 -- a post below leaves those held
-pub held_kept : (entries : List Adjustment) (used lines more : ℕ) → lines + length (take (counting used lines) entries) < most_lines → more ≡ lines + 1 → take (counting used more) entries ≡ take (counting used lines) entries
-held_kept entries used lines more few longer =
-    take_alike (counting used more) (counting used lines) entries (omega (arith, length-take (counting used lines) entries))
+pub held_kept : (entries : List Adjustment) (lines more : ℕ) → lines + length (take (most_lines - lines) entries) < most_lines → more ≡ lines + 1 → take (most_lines - more) entries ≡ take (most_lines - lines) entries
+held_kept entries lines more few longer =
+    take_alike (most_lines - more) (most_lines - lines) entries (omega (arith, length-take (most_lines - lines) entries))
 
 -- what a post does here and below is what a post to the layer does
 pub post_through : {F : Type 0} (told : F → Refusal) (r : Result (Unit {0}) F) (before after : Layer) (k : Key) (x : Cents) → answered told r ≡ post_refusal cents (layered before) k x → MatchResult r (λ _. PostedBelow before k x after) (λ _. Untouched before after) → MatchResult r (λ _. Posted cents (layered before) k x (layered after)) (λ _. Unchanged (layered before) (layered after))

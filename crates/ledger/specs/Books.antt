@@ -1,21 +1,25 @@
 -- Books: what a book means, and what its calls do to its meaning.
 use Rattle.std.specs.Prelude.{◌≡◌, ℕ, ◌+◌, ◌*◌, ◌≤◌, Bool, cond, not, List, [], ◌∷◌, sum_by, Option, ◌==◌}
 use Rattle.ledger.specs.Amounts.{Kind, most_lines}
-use Rattle.ledger.specs.Faults.{first_met}
-use Rattle.ledger.specs.Keys.{same, known, distinct}
-use Rattle.ledger.specs.declared.key.Key.{Key}
-use Rattle.ledger.specs.declared.refusal.Refusal.{Refusal}
+use Rattle.faults.specs.Faults.{first_met}
+use Rattle.faults.specs.Keys.{same, known, distinct}
+use Rattle.faults.specs.declared.cause.Cause.{Cause}
+use Rattle.faults.specs.declared.cause.Cause.TheVariants.{UnknownParticipant, AmountBeyondLimit, NoFreeLine}
+use Rattle.faults.specs.declared.key.Key.{Key}
+use Rattle.faults.specs.declared.layer.Layer.{Layer}
+use Rattle.faults.specs.declared.refusal.Refusal.{Refusal}
 
 -- what a book means: an amount for every key, its lines, its free lines, and the layer that now turns posts down
 pub record Meaning (X : Type 0) : Type 0 where
   pub amount : Key → X
   pub lines : ℕ
   pub free : ℕ
-  pub layer : ℕ
+  pub layer : Layer
 
 -- why a line is refused, first to last: an unknown participant, an amount that no line may hold, no room
-abbrev pub line_refusals : {X : Type 0} → Kind X → Key → X → Bool → List (Bool × ℕ)
-line_refusals kind k x full = (not (known k.participant), 4) ∷ (not (kind.allowed x), 6) ∷ (full, 12) ∷ []
+abbrev pub line_refusals : {X : Type 0} → Kind X → Key → X → Bool → List (Bool × Cause)
+line_refusals kind k x full =
+    (not (known k.participant), UnknownParticipant) ∷ (not (kind.allowed x), AmountBeyondLimit) ∷ (full, NoFreeLine) ∷ []
 
 -- a post is refused for want of room exactly when no line is free
 abbrev pub post_refusal : {X : Type 0} → Kind X → Meaning X → Key → X → Option Refusal

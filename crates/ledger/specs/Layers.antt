@@ -1,22 +1,25 @@
 -- Pass-through adjustments: a layer over a book of money.
-use Rattle.std.specs.Prelude.{◌≡◌, ℕ, ◌+◌, ◌-◌, min, Bool, false, cond, ◌||◌, List, [], ◌∷◌, ◌++◌, length, take, Option, nat_le}
+use Rattle.std.specs.Prelude.{◌≡◌, ℕ, ◌+◌, ◌-◌, min, Bool, cond, ◌||◌, List, [], ◌∷◌, ◌++◌, length, take, Option, nat_le}
+use Rattle.std.specs.List.{list_any}
 use Rattle.std.proofs.Common.{arith}
 use Rattle.std.proofs.lemmas.List.{length-take}
 use Rattle.ledger.specs.Amounts.{most_lines}
 use Rattle.ledger.specs.Books.{Meaning, Limited, Posted, Unchanged, line_refusals}
-use Rattle.ledger.specs.Faults.{first_met}
-use Rattle.ledger.specs.Keys.{same}
+use Rattle.faults.specs.Faults.{first_met}
+use Rattle.faults.specs.declared.layer.Layer.{Layer as Tier}
+use Rattle.faults.specs.declared.layer.Layer.TheVariants as tier
+use Rattle.faults.specs.Keys.{same}
 use Rattle.ledger.specs.Kinds.{cents}
 use Rattle.ledger.specs.Lines.{amount_of}
 use Rattle.ledger.specs.declared.adjustment.Adjustment.{Adjustment}
 use Rattle.ledger.specs.declared.adjustments.Adjustments.{Adjustments}
 use Rattle.ledger.specs.declared.book.Book.{Ghosts}
 use Rattle.ledger.specs.declared.cents.Cents.{Cents}
-use Rattle.ledger.specs.declared.key.Key.{Key}
+use Rattle.faults.specs.declared.key.Key.{Key}
 use Rattle.ledger.specs.declared.line.Line.{Line}
 use Rattle.ledger.specs.declared.path.Path.{Path}
 use Rattle.ledger.specs.declared.path.Path.TheVariants.{System, Adjustment as Own}
-use Rattle.ledger.specs.declared.refusal.Refusal.{Refusal}
+use Rattle.faults.specs.declared.refusal.Refusal.{Refusal}
 
 -- no layer holds more adjustments than this
 abbrev pub most_adjustments : ℕ
@@ -31,15 +34,11 @@ pub record Layer : Type 0 where
   pub below : Meaning Cents
   pub held : List Adjustment
 
--- how many of the used places count: at most so many, and no more than the limit on lines leaves
-abbrev pub counting : ℕ → ℕ → ℕ
-counting used lines = min (min used most_adjustments) (most_lines - lines)
-
--- what an adjustments layer over a book stands for
+-- what an adjustments layer over a book stands for: of those held, no more count than the limit on lines leaves
 abbrev pub layer : {B F : Type 0} → Ghosts B Cents F → Adjustments B → Layer
 layer book s = record {
   below = book.means s.below;
-  held = take (counting s.used (book.means s.below).lines) s.entries;
+  held = take (most_lines - (book.means s.below).lines) s.held.items;
 }
 
 -- a layer that holds nothing yet
@@ -60,7 +59,7 @@ layered v = record {
   amount = λ q. cents.joined (v.below.amount q) (own v q);
   lines = layer_lines v;
   free = min v.below.free (most_lines - layer_lines v);
-  layer = cond {A = ℕ} (nat_le most_lines (layer_lines v)) 2 v.below.layer;
+  layer = cond {A = Tier} (nat_le most_lines (layer_lines v)) tier.Adjustments v.below.layer;
 }
 
 -- the amounts that came by a path
@@ -75,8 +74,7 @@ path_lines Own v = length v.held
 
 -- whether a key has an adjustment, even of 0
 abbrev pub adjusted_at : List Adjustment → Key → Bool
-adjusted_at [] k = false
-adjusted_at (a ∷ rest) k = same a.key k || adjusted_at rest k
+adjusted_at held k = list_any (λ a. same a.key k) held
 
 -- no adjustment fits where all places are held, or at the limit on lines
 abbrev pub full : Layer → Bool
@@ -84,7 +82,7 @@ full v = nat_le most_adjustments (length v.held) || nat_le most_lines (layer_lin
 
 -- why an adjustment is refused, always by this layer
 abbrev pub adjust_refusal : Layer → Key → Cents → Option Refusal
-adjust_refusal v k x = first_met 2 k (line_refusals cents k x (full v))
+adjust_refusal v k x = first_met tier.Adjustments k (line_refusals cents k x (full v))
 
 -- a layer with one adjustment more, held last
 abbrev pub holding : Layer → Adjustment → Layer
@@ -108,4 +106,4 @@ pub record Untouched (before after : Layer) : Type 0 where
 -- lines and free lines are together no more than any book may have
 pub layer_limited : {B F : Type 0} (book : Ghosts B Cents F) (s : Adjustments B) → Limited (layered (layer book s))
 layer_limited book s =
-    omega (arith, book.limited s.below, length-take (counting s.used (book.means s.below).lines) s.entries)
+    omega (arith, book.limited s.below, length-take (most_lines - (book.means s.below).lines) s.held.items)

@@ -2,7 +2,6 @@ pub mod Amounts
 pub mod Books
 pub mod Faults
 pub mod Journals
-pub mod Keys
 pub mod Kinds
 pub mod Lawful
 pub mod Layers

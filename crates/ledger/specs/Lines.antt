@@ -1,9 +1,9 @@
 -- Lines: what entered amounts mean at a key.
 use Rattle.std.specs.Prelude.{Bool, cond, List}
 use Rattle.ledger.specs.Amounts.{Kind}
-use Rattle.ledger.specs.Keys.{key_of, same}
+use Rattle.faults.specs.Keys.{key_of, same}
 use Rattle.ledger.specs.Totals.{sum}
-use Rattle.ledger.specs.declared.key.Key.{Key}
+use Rattle.faults.specs.declared.key.Key.{Key}
 use Rattle.ledger.specs.declared.line.Line.{Line}
 
 -- a line that says nothing

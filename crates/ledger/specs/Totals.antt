@@ -1,8 +1,9 @@
 -- Totals: the amounts at all keys of one code, over spans of participants, pages and intervals.
 use Rattle.std.specs.Prelude.{ℕ, zero, suc, ◌-◌, Bool, ◌&&◌, List, [], ◌∷◌, ◌==◌, nat_le}
 use Rattle.ledger.specs.Amounts.{Kind}
-use Rattle.ledger.specs.Keys.{key_of}
-use Rattle.ledger.specs.declared.key.Key.{Key}
+use Rattle.faults.specs.Keys.{key_of}
+use Rattle.faults.specs.declared.key.Key.{Key}
+use Rattle.ledger.specs.declared.extent.Extent.{Extent}
 use Rattle.ledger.specs.declared.span.Span.{Span}
 
 -- the numbers from a first to a last
@@ -27,12 +28,16 @@ members s = count_up s.first (suc s.last - s.first)
 abbrev pub has : Span → ℕ → Bool
 has s n = nat_le s.first n && nat_le n s.last
 
--- the total of a code: the amount at each of its keys in the three spans
-unfoldable pub total : {X : Type 0} → Kind X → (Key → X) → ℕ → Span → Span → Span → X
-total kind amount code participants pages intervals =
-    sum kind (λ p. sum kind (λ d. sum kind (λ i. amount (key_of code p d i)) (members intervals)) (members pages)) (members participants)
+-- the keys of one code, in a span of participants, of pages and of intervals
+abbrev pub extent : ℕ → Span → Span → Span → Extent
+extent c p d i = record { code = c; participants = p; pages = d; intervals = i }
+
+-- the total over an extent: the amount at each of its keys
+unfoldable pub total : {X : Type 0} → Kind X → (Key → X) → Extent → X
+total kind amount x =
+    sum kind (λ p. sum kind (λ d. sum kind (λ i. amount (key_of x.code p d i)) (members x.intervals)) (members x.pages)) (members x.participants)
 
 -- whether a key is one of those
-abbrev pub covers : ℕ → Span → Span → Span → Key → Bool
-covers code participants pages intervals k =
-    (k.code == code) && (has participants k.participant && (has pages k.page && has intervals k.interval))
+abbrev pub covers : Extent → Key → Bool
+covers x k =
+    (k.code == x.code) && (has x.participants k.participant && (has x.pages k.page && has x.intervals k.interval))

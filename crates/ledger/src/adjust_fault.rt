@@ -1,17 +1,14 @@
-// The faults of the pass-through adjustments: their own causes, and any fault of the book below, carried whole.
+// The faults of the pass-through adjustments: a line of their own turned down, and any fault of the book below, carried whole.
 ghost use Rattle.std.specs.Prelude.{◌≡◌};
 ghost use Rattle.ledger.specs.Faults.{adjust_told};
-ghost use Rattle.ledger.specs.declared.adjust_fault.AdjustFault.TheVariants.{Carried};
+ghost use Rattle.ledger.specs.declared.adjust_fault.AdjustFault.TheVariants.{Carried, Line};
 
-use crate::fault::Fault;
-use crate::key::Key;
-use crate::refusal::Refusal;
+use crate::line_fault::LineFault;
+use faults::{Fault, Layer, Refusal};
 
 #[derive(Clone, Copy, PartialEq, Eq, Debug)]
 pub enum AdjustFault<F> {
-    UnknownParticipant(Key),
-    AmountBeyondLimit(Key),
-    NoFreeLine(Key),
+    Line(LineFault),
     Carried(F),
 }
 
@@ -20,11 +17,17 @@ impl<F: Fault> Fault for AdjustFault<F> {
 
     fn refusal(&self) -> Refusal {
         match self {
-            AdjustFault::UnknownParticipant(place) => Refusal::new(4, 2, *place),
-            AdjustFault::AmountBeyondLimit(place) => Refusal::new(6, 2, *place),
-            AdjustFault::NoFreeLine(place) => Refusal::new(12, 2, *place),
+            AdjustFault::Line(fault) => fault.told_by(Layer::Adjustments),
             AdjustFault::Carried(fault) => fault.refusal(),
         }
+    }
+}
+
+impl<F: Fault> From<LineFault> for AdjustFault<F> {
+    ghost from_gives = { λ fault r. r ≡ Line fault };
+
+    fn from(fault: LineFault) -> AdjustFault<F> {
+        AdjustFault::Line(fault)
     }
 }
 

@@ -3,10 +3,10 @@ ghost use Rattle.ledger.specs.Layers.{adjusted_line};
 
 use crate::cents::Cents;
 use crate::entry::Entry;
-use crate::key::Key;
 use crate::line::Line;
+use faults::Key;
 
-#[derive(Clone, Copy, PartialEq, Eq, Debug)]
+#[derive(Clone, Copy, PartialEq, Eq, Default, Debug)]
 pub struct Adjustment {
     pub key: Key,
     pub amount: Cents,

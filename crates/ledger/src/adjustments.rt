@@ -4,7 +4,8 @@
 ghost use Rattle.std.specs.Prelude.{◌≡◌, ◌<◌, ◌≤◌, false, length, MatchResult};
 ghost use Rattle.ledger.specs.Amounts.{most_lines};
 ghost use Rattle.ledger.specs.Books.{Within, line_refusals, post_refusal};
-ghost use Rattle.ledger.specs.Faults.{answered, adjust_told, first_met};
+ghost use Rattle.faults.specs.Faults.{answered};
+ghost use Rattle.ledger.specs.Faults.{adjust_told};
 ghost use Rattle.ledger.specs.Kinds.{cents};
 ghost use Rattle.ledger.specs.Layers.{layer, layered, layer_lines, layer_limited, most_adjustments, bare, full, holding};
 ghost use Rattle.ledger.specs.Layers.{path_amount, path_lines, adjusted_at, adjust_refusal, Adjusted, PostedBelow, Untouched};
@@ -16,10 +17,11 @@ use crate::amount::Amount;
 use crate::book::{Book, MOST_LINES};
 use crate::cents::Cents;
 use crate::entries::total_of;
-use crate::fault::Fault;
-use crate::key::Key;
+use crate::extent::Extent;
+use crate::line_fault::check_line;
 use crate::path::Path;
-use crate::span::Span;
+use arrayvec::ArrayVec;
+use faults::Key;
 
 // No layer holds more adjustments than this.
 pub const MOST_ADJUSTMENTS: usize = 256;
@@ -27,57 +29,22 @@ pub const MOST_ADJUSTMENTS: usize = 256;
 #[derive(Drop)]
 pub struct Adjustments<B> {
     below: B,
-    entries: [Adjustment; MOST_ADJUSTMENTS],
-    used: usize,
-}
-
-// The first cause to refuse a line of this layer, in the order of their numbers.
-fn check_line<F: Fault>(key: Key, amount: Cents, no_room: bool) -> Result<(), AdjustFault<F>>
-    ensures { answered (adjust_told F.Fault.told) result
-        ≡ first_met 2 key (line_refusals cents key amount no_room) }
-{
-    if !key.has_participant() {
-        return Err(AdjustFault::UnknownParticipant(key));
-    }
-    if !amount.fits_line() {
-        return Err(AdjustFault::AmountBeyondLimit(key));
-    }
-    if no_room {
-        return Err(AdjustFault::NoFreeLine(key));
-    }
-    Ok(())
+    held: ArrayVec<Adjustment, MOST_ADJUSTMENTS>,
 }
 
 fn any_at(held: &[Adjustment], key: Key) -> bool
     ensures { result ≡ adjusted_at held.now key }
 {
-    for adjustment in held {
-        if adjustment.key == key {
-            return true;
-        }
-    }
-    false
+    held.iter().any(|adjustment| adjustment.key == key)
 }
 
 impl<B: Book<Amount = Cents>> Adjustments<B> {
     pub fn new(below: B) -> Adjustments<B>
         ensures { layer B.Book result ≡ bare (B.Book.means below) }
     {
-        let key = Key {
-            code: 0,
-            participant: 0,
-            page: 0,
-            interval: 0,
-        };
-        let none = Adjustment {
-            key,
-            amount: Cents(0),
-            id: 0,
-        };
         Adjustments {
             below,
-            entries: [none; MOST_ADJUSTMENTS],
-            used: 0,
+            held: ArrayVec::new(),
         }
     }
 
@@ -87,8 +54,7 @@ impl<B: Book<Amount = Cents>> Adjustments<B> {
         ensures few { length result.now ≤ most_adjustments }
     {
         let left = MOST_LINES - self.below.lines();
-        let n = self.used.min(MOST_ADJUSTMENTS).min(left);
-        &self.entries[0..n]
+        &self.held[..self.held.len().min(left)]
     }
 
     // Whether no adjustment fits.
@@ -107,7 +73,7 @@ impl<B: Book<Amount = Cents>> Adjustments<B> {
             (λ _. Untouched (layer B.Book self.old) (layer B.Book self.new)) }
     {
         if self.lines() >= MOST_LINES {
-            return check_line(key, amount, true);
+            return Ok(check_line(key, amount, true)?);
         }
         self.post_below(key, amount)
     }
@@ -144,27 +110,17 @@ impl<B: Book<Amount = Cents>> Adjustments<B> {
         requires { full (layer B.Book self.old) ≡ false }
         ensures { layer B.Book self.new ≡ holding (layer B.Book self.old) adjustment }
     {
-        let next = self.held().len();
-        self.entries[next] = adjustment;
-        self.used = next + 1;
+        self.held.push(adjustment);
     }
 
     // The total of what came by one path.
-    pub fn path_total(
-        &self,
-        path: Path,
-        code: u32,
-        participants: Span,
-        pages: Span,
-        intervals: Span,
-    ) -> Cents
-        ensures sum { result
-            ≡ total_of cents (path_amount path (layer B.Book self.now)) code participants pages intervals }
+    pub fn path_total(&self, path: Path, extent: Extent) -> Cents
+        ensures sum { result ≡ total_of cents (path_amount path (layer B.Book self.now)) extent }
         ensures size { Within cents (path_lines path (layer B.Book self.now)) result }
     {
         match path {
-            Path::System => self.below.total(code, participants, pages, intervals),
-            Path::Adjustment => total_of(self.held(), code, participants, pages, intervals),
+            Path::System => self.below.total(extent),
+            Path::Adjustment => total_of(self.held(), extent),
         }
     }
 
@@ -191,9 +147,9 @@ impl<B: Book<Amount = Cents>> Book for Adjustments<B> {
         self.post_system(key, amount)
     }
 
-    fn total(&self, code: u32, participants: Span, pages: Span, intervals: Span) -> Cents {
-        let system = self.path_total(Path::System, code, participants, pages, intervals);
-        let own = self.path_total(Path::Adjustment, code, participants, pages, intervals);
+    fn total(&self, extent: Extent) -> Cents {
+        let system = self.path_total(Path::System, extent);
+        let own = self.path_total(Path::Adjustment, extent);
         system.join(own)
     }
 

@@ -16,7 +16,7 @@ pub struct Balance {
 fn side_fits(cents: i64) -> bool
     ensures { result ≡ side cents }
 {
-    0 <= cents && cents <= 10_000_000_000
+    (0..=10_000_000_000).contains(&cents)
 }
 
 impl Amount for Balance {

@@ -3,13 +3,12 @@
 // needs no more than this trait. No call has a condition: what a book cannot take it refuses, and a refusal changes nothing.
 ghost use Rattle.std.specs.Prelude.{◌≡◌, MatchResult};
 ghost use Rattle.ledger.specs.Books.{Meaning, Limited, post_refusal, Posted, Unchanged, Bounded, NoughtWhenEmpty, Within};
-ghost use Rattle.ledger.specs.Faults.{answered};
+ghost use Rattle.faults.specs.Faults.{answered};
 ghost use Rattle.ledger.specs.Totals.{total as total_of};
 
 use crate::amount::Amount;
-use crate::fault::Fault;
-use crate::key::Key;
-use crate::span::Span;
+use crate::extent::Extent;
+use faults::{Fault, Key};
 
 // No book has more lines than this.
 pub const MOST_LINES: usize = 1_000_000;
@@ -34,9 +33,9 @@ pub trait Book {
             (λ _. Posted Self.Amount.Amount.kind (means self.old) key amount (means self.new))
             (λ _. Unchanged (means self.old) (means self.new)) };
 
-    fn total(&self, code: u32, participants: Span, pages: Span, intervals: Span) -> Self::Amount
+    fn total(&self, extent: Extent) -> Self::Amount
         ensures sum { result
-            ≡ total_of Self.Amount.Amount.kind (means self.now).amount code participants pages intervals }
+            ≡ total_of Self.Amount.Amount.kind (means self.now).amount extent }
         ensures size { Within Self.Amount.Amount.kind (means self.now).lines result };
 
     fn lines(&self) -> usize

@@ -1,25 +1,26 @@
-// The faults of a book at the bottom of the pile.
+// The faults of a book at the bottom of the pile: why it turned a line down.
+ghost use Rattle.std.specs.Prelude.{◌≡◌};
 ghost use Rattle.ledger.specs.Faults.{book_told};
+ghost use Rattle.ledger.specs.declared.book_fault.BookFault.{BookFault};
 
-use crate::fault::Fault;
-use crate::key::Key;
-use crate::refusal::Refusal;
+use crate::line_fault::LineFault;
+use faults::{Fault, Layer, Refusal};
 
 #[derive(Clone, Copy, PartialEq, Eq, Debug)]
-pub enum BookFault {
-    UnknownParticipant(Key),
-    AmountBeyondLimit(Key),
-    NoFreeLine(Key),
-}
+pub struct BookFault(pub LineFault);
 
 impl Fault for BookFault {
     ghost told = { book_told };
 
     fn refusal(&self) -> Refusal {
-        match *self {
-            BookFault::UnknownParticipant(place) => Refusal::new(4, 3, place),
-            BookFault::AmountBeyondLimit(place) => Refusal::new(6, 3, place),
-            BookFault::NoFreeLine(place) => Refusal::new(12, 3, place),
-        }
+        self.0.told_by(Layer::Book)
+    }
+}
+
+impl From<LineFault> for BookFault {
+    ghost from_gives = { λ fault r. r.0 ≡ fault };
+
+    fn from(fault: LineFault) -> BookFault {
+        BookFault(fault)
     }
 }

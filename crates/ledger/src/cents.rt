@@ -4,7 +4,7 @@ ghost use Rattle.ledger.specs.Lawful.{cents_laws};
 
 use crate::amount::{Amount, add};
 
-#[derive(Clone, Copy, PartialEq, Eq, Debug)]
+#[derive(Clone, Copy, PartialEq, Eq, Default, Debug)]
 pub struct Cents(pub i64);
 
 impl Amount for Cents {

@@ -8,30 +8,14 @@ ghost use Rattle.ledger.specs.Totals.{covers, total};
 
 use crate::amount::Amount;
 use crate::entry::Entry;
-use crate::key::Key;
+use crate::extent::Extent;
 use crate::line::Line;
-use crate::span::Span;
-
-fn covers_key(code: u32, participants: Span, pages: Span, intervals: Span, key: Key) -> bool
-    ensures { result ≡ covers code participants pages intervals key }
-{
-    key.code == code
-        && participants.contains(key.participant)
-        && pages.contains(key.page)
-        && intervals.contains(key.interval)
-}
 
 // What a line adds to a total.
-fn part_of<K: Amount>(
-    line: Line<K>,
-    code: u32,
-    participants: Span,
-    pages: Span,
-    intervals: Span,
-) -> K
-    ensures { result ≡ put K.Amount.kind (covers code participants pages intervals) line }
+fn part_of<K: Amount>(line: Line<K>, extent: Extent) -> K
+    ensures { result ≡ put K.Amount.kind (covers extent) line }
 {
-    if covers_key(code, participants, pages, intervals, line.key) && line.amount.fits_line() {
+    if extent.covers(line.key) && line.amount.fits_line() {
         line.amount
     } else {
         K::nought()
@@ -39,21 +23,15 @@ fn part_of<K: Amount>(
 }
 
 // What a question finds in entries that are no more than a book can have.
-pub(crate) fn total_of<E: Entry>(
-    entries: &[E],
-    code: u32,
-    participants: Span,
-    pages: Span,
-    intervals: Span,
-) -> E::Amount
+pub(crate) fn total_of<E: Entry>(entries: &[E], extent: Extent) -> E::Amount
     requires { length entries.now ≤ most_lines }
     ensures sum { result ≡ total E.Amount.Amount.kind
-        (amount_of E.Amount.Amount.kind E.Entry.entered entries.now) code participants pages intervals }
+        (amount_of E.Amount.Amount.kind E.Entry.entered entries.now) extent }
     ensures size { Within E.Amount.Amount.kind (length entries.now) result }
 {
     let mut sum = E::Amount::nought();
     for entry in entries {
-        sum = sum.join(part_of(entry.line(), code, participants, pages, intervals));
+        sum = sum.join(part_of(entry.line(), extent));
     }
     sum
 }

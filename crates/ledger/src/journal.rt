@@ -1,5 +1,6 @@
 // The journal: a book that appends to lent lines, one text for every kind of amount.
 // It keeps nothing but the lines and how many it has used; what it means at a key is what its lines there join to.
+// The lines are lent, since nothing here allocates, so a length stands beside them.
 // No invariant is asked of the lines: whatever they hold, a line that its kind does not allow counts as nought.
 ghost use Rattle.std.specs.Prelude.{◌≡◌, ◌<◌, true, length};
 ghost use Rattle.ledger.specs.Books.{Posted};
@@ -9,9 +10,10 @@ use crate::amount::Amount;
 use crate::book::{Book, MOST_LINES};
 use crate::book_fault::BookFault;
 use crate::entries::total_of;
-use crate::key::Key;
+use crate::extent::Extent;
 use crate::line::Line;
-use crate::span::Span;
+use crate::line_fault::check_line;
+use faults::Key;
 
 #[derive(Drop)]
 pub struct Journal<'a, K> {
@@ -64,22 +66,15 @@ impl<'a, K: Amount> Book for Journal<'a, K> {
     ghost limited = { λ s. journal_limited s.used (length s.entries.now) };
 
     fn post(&mut self, key: Key, amount: K) -> Result<(), BookFault> {
-        if !key.has_participant() {
-            return Err(BookFault::UnknownParticipant(key));
-        }
-        if !amount.fits_line() {
-            return Err(BookFault::AmountBeyondLimit(key));
-        }
-        if self.used >= self.entries.len() || self.used >= MOST_LINES {
-            return Err(BookFault::NoFreeLine(key));
-        }
+        let full = self.used >= self.entries.len() || self.used >= MOST_LINES;
+        check_line(key, amount, full)?;
         self.append(Line { key, amount });
         Ok(())
     }
 
-    fn total(&self, code: u32, participants: Span, pages: Span, intervals: Span) -> K {
+    fn total(&self, extent: Extent) -> K {
         let n = self.lines();
-        total_of(&self.entries[0..n], code, participants, pages, intervals)
+        total_of(&self.entries[0..n], extent)
     }
 
     fn lines(&self) -> usize {

@@ -1,4 +1,6 @@
 // Measured demand in whole kWh: readings, and corrections of either sign.
+// Beside `Cents` it differs in a limit alone. One type with the limit as a parameter would be no plainer: an alias of it
+// cannot write `Kwh(5)`, and money and demand would be one type wherever their limits were the same.
 ghost use Rattle.ledger.specs.Kinds.{kwh};
 ghost use Rattle.ledger.specs.Lawful.{kwh_laws};
 

@@ -12,13 +12,12 @@ mod book_fault;
 mod cents;
 mod entries;
 mod entry;
-mod fault;
+mod extent;
 mod journal;
-mod key;
 mod kwh;
 mod line;
+mod line_fault;
 mod path;
-mod refusal;
 mod span;
 
 pub use adjust_fault::AdjustFault;
@@ -30,13 +29,12 @@ pub use book::{Book, MOST_LINES};
 pub use book_fault::BookFault;
 pub use cents::Cents;
 pub use entry::Entry;
-pub use fault::Fault;
+pub use extent::Extent;
 pub use journal::Journal;
-pub use key::Key;
 pub use kwh::Kwh;
 pub use line::Line;
+pub use line_fault::LineFault;
 pub use path::Path;
-pub use refusal::Refusal;
 pub use span::Span;
 
 #[cfg(test)]

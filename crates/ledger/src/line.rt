@@ -3,7 +3,7 @@ ghost use Rattle.std.specs.Prelude.{◌≡◌};
 ghost use Rattle.ledger.specs.Lines.{blank as blank_line};
 
 use crate::amount::Amount;
-use crate::key::Key;
+use faults::Key;
 
 #[derive(Clone, Copy, PartialEq, Eq, Debug)]
 pub struct Line<K> {
@@ -16,14 +16,8 @@ impl<K: Amount> Line<K> {
     pub fn blank() -> Line<K>
         ensures { result ≡ blank_line K.Amount.kind }
     {
-        let key = Key {
-            code: 0,
-            participant: 0,
-            page: 0,
-            interval: 0,
-        };
         Line {
-            key,
+            key: Key::NOWHERE,
             amount: K::nought(),
         }
     }

@@ -25,6 +25,6 @@ impl Span {
     pub fn contains(self, number: u32) -> bool
         ensures { result ≡ has self number }
     {
-        self.first <= number && number <= self.last
+        (self.first..=self.last).contains(&number)
     }
 }

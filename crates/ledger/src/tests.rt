@@ -1,7 +1,7 @@
 // Cases that a clerk would try, with figures worked out by hand, and small code over any book.
 ghost use Rattle.std.specs.Prelude.{◌≡◌, suc, ◌≤◌, ◌||◌, IfOk, if◌then◌else◌};
 ghost use Rattle.ledger.specs.Books.{post_refusal};
-ghost use Rattle.ledger.specs.Keys.{same};
+ghost use Rattle.faults.specs.Keys.{same};
 ghost use Rattle.ledger.specs.Kinds.{cents};
 ghost use Rattle.ledger.specs.Layers.{layer, own, adjusted_at};
 ghost use Rattle.ledger.specs.Totals.{total as total_of, covers};
@@ -12,14 +12,13 @@ use crate::amount::Amount;
 use crate::balance::Balance;
 use crate::book::Book;
 use crate::cents::Cents;
-use crate::fault::Fault;
+use crate::extent::Extent;
 use crate::journal::Journal;
-use crate::key::Key;
 use crate::kwh::Kwh;
 use crate::line::Line;
 use crate::path::Path;
-use crate::refusal::Refusal;
 use crate::span::Span;
+use faults::{Cause, Fault, Key, Layer, Refusal};
 use std::test::Fail;
 
 // Code over any book: a post, and a total after it.
@@ -27,50 +26,35 @@ fn post_then_total<B: Book>(
     book: &mut B,
     key: Key,
     amount: B::Amount,
-    code: u32,
-    participants: Span,
-    pages: Span,
-    intervals: Span,
+    extent: Extent,
 ) -> Result<B::Amount, B::Fault>
     ensures { IfOk result (λ t. t ≡ B.Amount.Amount.kind.joined
-        (total_of B.Amount.Amount.kind (B.means book.old).amount code participants pages intervals)
-        (if covers code participants pages intervals key then amount else B.Amount.Amount.kind.nought)) }
+        (total_of B.Amount.Amount.kind (B.means book.old).amount extent)
+        (if covers extent key then amount else B.Amount.Amount.kind.nought)) }
 {
     book.post(key, amount)?;
-    Ok(book.total(code, participants, pages, intervals))
+    Ok(book.total(extent))
 }
 
 // Code over any book: a total, asked in two parts of the pages.
-fn total_in_parts<B: Book>(
-    book: &B,
-    code: u32,
-    participants: Span,
-    pages: Span,
-    cut: u32,
-    intervals: Span,
-) -> B::Amount
-    requires { (pages.first ≤ cut) × (suc cut ≤ pages.last) }
-    ensures { result
-        ≡ total_of B.Amount.Amount.kind (B.means book.now).amount code participants pages intervals }
+fn total_in_parts<B: Book>(book: &B, extent: Extent, cut: u32) -> B::Amount
+    requires { (extent.pages.first ≤ cut) × (suc cut ≤ extent.pages.last) }
+    ensures { result ≡ total_of B.Amount.Amount.kind (B.means book.now).amount extent }
 {
-    let early = book.total(
-        code,
-        participants,
-        Span {
-            first: pages.first,
+    let early = book.total(Extent {
+        pages: Span {
+            first: extent.pages.first,
             last: cut,
         },
-        intervals,
-    );
-    let late = book.total(
-        code,
-        participants,
-        Span {
+        ..extent
+    });
+    let late = book.total(Extent {
+        pages: Span {
             first: cut + 1,
-            last: pages.last,
+            last: extent.pages.last,
         },
-        intervals,
-    );
+        ..extent
+    });
     early.join(late)
 }
 
@@ -79,19 +63,18 @@ fn adjust_then_ask<B: Book<Amount = Cents>>(
     money: &mut Adjustments<B>,
     key: Key,
     amount: Cents,
-    code: u32,
-    span: Span,
+    extent: Extent,
     asked: Key,
 ) -> Result<(Cents, bool), AdjustFault<B::Fault>>
     ensures path { IfOk result (λ t. t.0 ≡ cents.joined
-        (total_of cents (own (layer B.Book money.old)) code span span span)
-        (if covers code span span span key then amount else cents.nought)) }
+        (total_of cents (own (layer B.Book money.old)) extent)
+        (if covers extent key then amount else cents.nought)) }
     ensures mark { IfOk result (λ t. t.1
         ≡ (adjusted_at (layer B.Book money.old).held asked || same key asked)) }
 {
     money.adjust(key, amount)?;
     Ok((
-        money.path_total(Path::Adjustment, code, span, span, span),
+        money.path_total(Path::Adjustment, extent),
         money.adjusted_at(asked),
     ))
 }
@@ -108,8 +91,17 @@ fn refusal_of<B: Book>(book: &mut B, key: Key, amount: B::Amount) -> Option<Refu
 
 // All that a book has of code 6470.
 fn everything<B: Book>(book: &B) -> B::Amount {
-    let all = Span::new(0, 144);
-    book.total(6470, all, all, all)
+    book.total(cube(Span::new(0, 144)))
+}
+
+// Code 6470 in the same span of participants, of pages and of intervals.
+fn cube(span: Span) -> Extent {
+    Extent {
+        code: 6470,
+        participants: span,
+        pages: span,
+        intervals: span,
+    }
 }
 
 fn at(participant: u32, page: u32, interval: u32) -> Key {
@@ -118,6 +110,14 @@ fn at(participant: u32, page: u32, interval: u32) -> Key {
         participant,
         page,
         interval,
+    }
+}
+
+fn by_book(cause: Cause, place: Key) -> Refusal {
+    Refusal {
+        cause,
+        layer: Layer::Book,
+        place,
     }
 }
 
@@ -132,28 +132,17 @@ fn posts_add_up_over_the_spans_asked_for(rt: HostRuntime) -> Result<(), Fail> {
     journal.post(at(1, 1, 1), Cents(-100))?;
     journal.post(at(1, 1, 2), Cents(30))?;
     assert_eq!(rt; everything(&journal), Cents(-70));
-    let first = Span::only(1);
-    assert_eq!(rt; journal.total(6470, first, first, first), Cents(-100));
+    let pages = |first, last| Extent {
+        pages: Span::new(first, last),
+        ..cube(Span::only(1))
+    };
+    assert_eq!(rt; journal.total(pages(1, 1)), Cents(-100));
+    assert_eq!(rt; journal.total(pages(2, 1)), Cents(0));
     assert_eq!(rt;
-        journal.total(6470, first, Span::new(2, 1), first),
-        Cents(0)
-    );
-    assert_eq!(rt;
-        post_then_total(
-            &mut journal,
-            at(1, 2, 1),
-            Cents(5),
-            6470,
-            first,
-            Span::new(1, 2),
-            first,
-        )?,
+        post_then_total(&mut journal, at(1, 2, 1), Cents(5), pages(1, 2))?,
         Cents(-95)
     );
-    assert_eq!(rt;
-        total_in_parts(&journal, 6470, first, Span::new(1, 3), 1, first),
-        Cents(-95)
-    );
+    assert_eq!(rt; total_in_parts(&journal, pages(1, 3), 1), Cents(-95));
     Ok(())
 }
 
@@ -161,13 +150,13 @@ fn posts_add_up_over_the_spans_asked_for(rt: HostRuntime) -> Result<(), Fail> {
 fn a_refused_reading_leaves_the_journal(rt: HostRuntime) -> Result<(), Fail> {
     let mut places = [Line::<Kwh>::blank(); 1];
     let mut journal = Journal::new(&mut places);
-    let stranger = Refusal::new(4, 3, at(33, 1, 1));
+    let stranger = by_book(Cause::UnknownParticipant, at(33, 1, 1));
     assert_eq!(rt;
         refusal_of(&mut journal, at(33, 1, 1), Kwh(100_000_001)),
         Some(stranger)
     );
     journal.post(at(1, 1, 1), Kwh(-100_000_000))?;
-    let full = Refusal::new(12, 3, at(2, 1, 1));
+    let full = by_book(Cause::NoFreeLine, at(2, 1, 1));
     assert_eq!(rt; refusal_of(&mut journal, at(2, 1, 1), Kwh(1)), Some(full));
     assert_eq!(rt; everything(&journal), Kwh(-100_000_000));
     Ok(())
@@ -196,13 +185,12 @@ fn adjustments_pile_up_over_a_journal(rt: HostRuntime) -> Result<(), Fail> {
             &mut pile,
             at(2, 1, 1),
             Cents(0),
-            6470,
-            Span::only(1),
+            cube(Span::only(1)),
             at(2, 1, 1),
         )?,
         (Cents(-250), true)
     );
-    let full = Refusal::new(12, 3, at(3, 1, 1));
+    let full = by_book(Cause::NoFreeLine, at(3, 1, 1));
     assert_eq!(rt; refusal_of(&mut pile, at(3, 1, 1), Cents(1)), Some(full));
     Ok(())
 }

@@ -16,7 +16,7 @@ loop-entry-preserved g c =
     let kind = g.E.Amount.Amount.kind in
     let laws = g.E.Amount.Amount.laws in
     let line = g.E.Entry.entered in
-    let test = covers c.args.code c.args.participants c.args.pages c.args.intervals in
+    let test = covers c.args.extent in
     let e = c.entry-item.result in
     let part : c.part_of.result ≡ put kind test (line e) = c.part_of.ensures ∙ ap (put kind test) c.line.ensures in
     let small : kind.size c.part_of.result ≤ kind.largest = omega (arith, ap kind.size part, put_size laws test (line e)) in
@@ -28,12 +28,12 @@ returns g c =
     let kind = g.E.Amount.Amount.kind in
     let laws = g.E.Amount.Amount.laws in
     let line = g.E.Entry.entered in
-    let test = covers c.args.code c.args.participants c.args.pages c.args.intervals in
+    let test = covers c.args.extent in
     let end : c.loop-entry.entry-index ≡ length c.args.entries.now = omega arith in
     record {
       sum =
           c.loop-entry.invariant.2
           ∙ ap (sum_where kind line test) (take_all _ _ c.loop-entry-test.false)
-          ∙ total_of_lines laws c.args.code c.args.participants c.args.pages c.args.intervals line c.args.entries.now;
+          ∙ total_of_lines laws c.args.extent line c.args.entries.now;
       size = subst (λ n. Within kind n c.loop-entry.sum) end c.loop-entry.invariant.1;
     }

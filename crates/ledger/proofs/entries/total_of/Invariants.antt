@@ -9,4 +9,4 @@ invariant-loop-entry g l =
     let kind = g.E.Amount.Amount.kind in
     (l.entry-index ≤ length l.entries)
     × Within kind l.entry-index l.sum
-    × (l.sum ≡ sum_where kind g.E.Entry.entered (covers l.code l.participants l.pages l.intervals) (take l.entry-index l.entries))
+    × (l.sum ≡ sum_where kind g.E.Entry.entered (covers l.extent) (take l.entry-index l.entries))

@@ -10,12 +10,11 @@ returns g c =
     let before = layer g.B.Book c.args.money.now in
     let after = layer g.B.Book c.adjust.new.self in
     let granted = c.in_ok-adjust.ensures in
-    let s = c.args.span in
     record {
       path =
           c.path_total.ensures.sum
-          ∙ total_alike cents_laws c.args.code s s s _ _ (own_adjusted before after c.args.key c.args.amount _ granted.answer granted.after)
-          ∙ total_posted cents_laws c.args.code s s s _ c.args.key c.args.amount;
+          ∙ total_alike cents_laws c.args.extent _ _ (own_adjusted before after c.args.key c.args.amount _ granted.answer granted.after)
+          ∙ total_posted cents_laws c.args.extent _ c.args.key c.args.amount;
       mark =
           c.adjusted_at.ensures
           ∙ ap (λ v. adjusted_at v.held c.args.asked) granted.after.holds

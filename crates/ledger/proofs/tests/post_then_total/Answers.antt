@@ -7,5 +7,5 @@ returns g c =
     let laws = g.B.Amount.Amount.laws in
     let posted = c.in_ok-post.ensures.after.amounts in
     c.total.ensures.sum
-    ∙ total_alike laws c.args.code c.args.participants c.args.pages c.args.intervals _ _ posted
-    ∙ total_posted laws c.args.code c.args.participants c.args.pages c.args.intervals _ c.args.key c.args.amount
+    ∙ total_alike laws c.args.extent _ _ posted
+    ∙ total_posted laws c.args.extent _ c.args.key c.args.amount

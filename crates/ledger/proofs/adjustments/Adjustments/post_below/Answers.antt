@@ -12,6 +12,6 @@ returns g c =
       answer = took.answer ∙ sym (refusal_below v c.args.key c.args.amount c.requires);
       after = record {
         takes = took.after;
-        as_held = held_kept s.entries s.used v.below.lines _ c.requires took.after.longer;
+        as_held = held_kept s.held.items v.below.lines _ c.requires took.after.longer;
       };
     }

@@ -18,7 +18,7 @@ returns g c =
       sum =
           joins
           ∙ ap (λ z. cents.joined z y.result) x.ensures.sum
-          ∙ ap (cents.joined (total cents v.below.amount c.args.code c.args.participants c.args.pages c.args.intervals)) y.ensures.sum
-          ∙ sym (total_joined cents_laws c.args.code c.args.participants c.args.pages c.args.intervals v.below.amount (own v));
+          ∙ ap (cents.joined (total cents v.below.amount c.args.extent)) y.ensures.sum
+          ∙ sym (total_joined cents_laws c.args.extent v.below.amount (own v));
       size = joined_within cents_laws v.below.lines (length v.held) x.result y.result _ (omega (arith, layer_limited g.B.Book c.args.self.now)) x.ensures.size y.ensures.size joins;
     }
