@@ -6,7 +6,7 @@ use Rattle.ledger.specs.Lawful.{cents_laws}
 use Rattle.ledger.specs.Layers.{Layer, layered, own, path_amount}
 use Rattle.ledger.specs.Totals.{sum}
 use Rattle.ledger.specs.declared.cents.Cents.{Cents}
-use Rattle.ledger.specs.declared.key.Key.{Key}
+use Rattle.faults.specs.declared.key.Key.{Key}
 use Rattle.ledger.specs.declared.path.Path.{Path}
 use Rattle.ledger.specs.declared.path.Path.TheVariants.{System, Adjustment}
 use Rattle.ledger.proofs.Sums.{nought_right, sum_exchange, sum_joined, sum_same}

@@ -2,8 +2,8 @@
 use Rattle.std.proofs.Common.{◌≡◌, ℕ, Bool, true, false, ◌&&◌, eqb, is_some, Some, None, Option, sym, refl, ap, ◌∙◌}
 use Rattle.std.specs.Option.{option_flatten, option_map}
 use Rattle.std.proofs.lemmas.Bool.{and_from, and_parts, eq-eqb, eqb-true, false≢true, or_left, or_right}
-use Rattle.ledger.specs.Keys.{key_of}
-use Rattle.ledger.specs.declared.key.Key.{Key}
+use Rattle.faults.specs.Keys.{key_of}
+use Rattle.faults.specs.declared.key.Key.{Key}
 use Rattle.ledger.specs.declared.path.Path.{Path}
 use Rattle.ledger.specs.declared.path.Path.TheVariants.{System, Adjustment}
 use Rattle.tariff.proofs.TariffSound.{tariff_sound}

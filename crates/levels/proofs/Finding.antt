@@ -1,12 +1,12 @@
 -- Finding a total over a scope: code by code, each by one question.
 use Rattle.std.proofs.Common.{◌≡◌, ℕ, Bool, true, false, cond, ◌&&◌, List, [], ◌∷◌, map, Some, None, Option, sym, refl, ap, ◌∙◌, arith}
 use Rattle.std.specs.List.{flat_map, AllByRecursion}
-use Rattle.ledger.specs.Keys.{key_of}
+use Rattle.faults.specs.Keys.{key_of}
 use Rattle.ledger.specs.Kinds.{cents}
 use Rattle.ledger.specs.Lawful.{cents_laws}
 use Rattle.ledger.specs.Totals.{has, members, span, sum, total}
 use Rattle.ledger.specs.declared.cents.Cents.{Cents}
-use Rattle.ledger.specs.declared.key.Key.{Key}
+use Rattle.faults.specs.declared.key.Key.{Key}
 use Rattle.ledger.specs.declared.span.Span.{Span}
 use Rattle.ledger.proofs.Sums.{sum_same}
 use Rattle.tariff.proofs.TariffSound.{tariff_sound}

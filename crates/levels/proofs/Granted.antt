@@ -1,12 +1,14 @@
 -- A question is granted exactly where none of its causes to refuse is met.
 use Rattle.std.proofs.Common.{◌≡◌, ℕ, Bool, true, false, not, [], ◌∷◌, Some, None, Option, refl, arith}
-use Rattle.ledger.specs.Faults.{first_met}
-use Rattle.ledger.specs.declared.key.Key.{Key}
-use Rattle.ledger.specs.declared.refusal.Refusal.{Refusal}
+use Rattle.faults.specs.Faults.{first_met}
+use Rattle.faults.specs.declared.cause.Cause.TheVariants.{NotInTable, UnknownParticipant, OutsidePage}
+use Rattle.faults.specs.declared.key.Key.{Key}
+use Rattle.faults.specs.declared.layer.Layer.TheVariants.{Month}
+use Rattle.faults.specs.declared.refusal.Refusal.{Refusal}
 
 -- the three causes of a question; where it has fewer, the others are never met
 abbrev causes_met : Key → Bool → Bool → Bool → Option Refusal
-causes_met place a b c = first_met 1 place ((not a, 2) ∷ (not b, 4) ∷ (not c, 5) ∷ [])
+causes_met place a b c = first_met Month place ((not a, NotInTable) ∷ (not b, UnknownParticipant) ∷ (not c, OutsidePage) ∷ [])
 
 never : (r : Refusal) → Some r ≡ None → ⊥
 never r e = let z : ◌≡◌ {A = ℕ} 0 1 = cc in omega arith

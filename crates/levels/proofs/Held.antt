@@ -2,7 +2,7 @@
 use Rattle.std.proofs.Common.{◌≡◌, ℕ, Bool, true, Some, None, Option, refl}
 use Rattle.std.specs.Option.{option_flatten, option_map}
 use Rattle.std.proofs.lemmas.Bool.{and_parts, false≢true}
-use Rattle.ledger.specs.declared.key.Key.{Key}
+use Rattle.faults.specs.declared.key.Key.{Key}
 use Rattle.tariff.specs.Month.{group_of, is_interval, kind_of_group, parent_of}
 use Rattle.tariff.specs.Pages.{kind_of_parent}
 use Rattle.tariff.specs.declared.page_kind.PageKind.{PageKind}

@@ -4,9 +4,9 @@ use Rattle.std.specs.Option.{option_flatten, option_map}
 use Rattle.std.specs.List.{AllByRecursion}
 use Rattle.std.proofs.ByRecursion.{All-map, All-weaker}
 use Rattle.std.proofs.lemmas.Bool.{and_from, and_parts, cases_Bool}
-use Rattle.ledger.specs.Keys.{distinct, key_of, same}
+use Rattle.faults.specs.Keys.{distinct, key_of, same}
 use Rattle.ledger.specs.Totals.{has, members}
-use Rattle.ledger.specs.declared.key.Key.{Key}
+use Rattle.faults.specs.declared.key.Key.{Key}
 use Rattle.ledger.proofs.Bounds.{same_key}
 use Rattle.tariff.proofs.TariffSound.{tariff_sound}
 use Rattle.tariff.specs.Charges.{Entry}

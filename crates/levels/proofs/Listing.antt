@@ -4,9 +4,9 @@ use Rattle.std.specs.List.{flat_map, AllByRecursion}
 use Rattle.std.specs.Option.{option_flatten, option_map}
 use Rattle.std.proofs.ByRecursion.{All-map, All-weaker}
 use Rattle.std.proofs.lemmas.Bool.{and_from, cases_Bool, eqb-true, false≢true}
-use Rattle.ledger.specs.Keys.{key_of}
+use Rattle.faults.specs.Keys.{key_of}
 use Rattle.ledger.specs.Totals.{has, members, span}
-use Rattle.ledger.specs.declared.key.Key.{Key}
+use Rattle.faults.specs.declared.key.Key.{Key}
 use Rattle.ledger.specs.declared.path.Path.{Path}
 use Rattle.ledger.specs.declared.path.Path.TheVariants.{System, Adjustment}
 use Rattle.ledger.specs.declared.span.Span.{Span}

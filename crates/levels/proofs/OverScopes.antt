@@ -5,12 +5,12 @@ use Rattle.std.proofs.lemmas.List.Sums.{sum_by-cons}
 use Rattle.std.proofs.lemmas.Bool.{and_from, both_ways, cases_Bool, eq-eqb}
 use Rattle.ledger.specs.Amounts.{Kind, Laws}
 use Rattle.ledger.specs.Books.{Backed, posted}
-use Rattle.ledger.specs.Keys.{same}
+use Rattle.faults.specs.Keys.{same}
 use Rattle.ledger.specs.Kinds.{cents}
 use Rattle.ledger.specs.Lawful.{cents_laws}
 use Rattle.ledger.specs.Totals.{sum}
 use Rattle.ledger.specs.declared.cents.Cents.{Cents}
-use Rattle.ledger.specs.declared.key.Key.{Key}
+use Rattle.faults.specs.declared.key.Key.{Key}
 use Rattle.ledger.proofs.Bounds.{same_key}
 use Rattle.ledger.proofs.Sums.{nought_right, sum_joined, sum_same}
 use Rattle.levels.specs.Levels.{whole}

@@ -5,7 +5,7 @@ use Rattle.ledger.specs.Kinds.{cents}
 use Rattle.ledger.specs.Layers.{Layer, layered}
 use Rattle.ledger.specs.Totals.{members, span, sum}
 use Rattle.ledger.specs.declared.cents.Cents.{Cents}
-use Rattle.ledger.specs.declared.key.Key.{Key}
+use Rattle.faults.specs.declared.key.Key.{Key}
 use Rattle.ledger.specs.declared.path.Path.TheVariants.{System, Adjustment}
 use Rattle.tariff.specs.Groups.{parent_number, parents as every_parent}
 use Rattle.tariff.specs.Month.{days_of, kind_of_group, table_of}

@@ -1,16 +1,19 @@
 -- Questions: which are answered, what each covers, and what its answer is.
-use Rattle.std.specs.Prelude.{ℕ, suc, Bool, not, ◌||◌, List, [], ◌∷◌, ℤ, pos, negsuc, is_some, Some, None, Option, Result}
+use Rattle.std.specs.Prelude.{ℕ, suc, Bool, true, not, ◌||◌, List, [], ◌∷◌, ℤ, pos, negsuc, is_some, Some, None, Option, Result}
 use Rattle.std.specs.Option.{option_map}
-use Rattle.ledger.specs.Faults.{as_told, first_met, refusal, unless}
-use Rattle.ledger.specs.Keys.{key_of}
+use Rattle.faults.specs.Faults.{as_told, first_met, refusal, unless}
+use Rattle.faults.specs.declared.cause.Cause.{Cause}
+use Rattle.faults.specs.declared.cause.Cause.TheVariants as cause
+use Rattle.faults.specs.declared.layer.Layer.TheVariants as layer
+use Rattle.faults.specs.Keys.{key_of}
 use Rattle.ledger.specs.Kinds.{balance, sides}
 use Rattle.ledger.specs.Layers.{Layer}
 use Rattle.ledger.specs.Totals.{members, sum}
 use Rattle.ledger.specs.declared.balance.Balance.{Balance}
 use Rattle.ledger.specs.declared.cents.Cents.{Cents}
-use Rattle.ledger.specs.declared.key.Key.{Key}
+use Rattle.faults.specs.declared.key.Key.{Key}
 use Rattle.ledger.specs.declared.path.Path.{Path}
-use Rattle.ledger.specs.declared.refusal.Refusal.{Refusal}
+use Rattle.faults.specs.declared.refusal.Refusal.{Refusal}
 use Rattle.tariff.specs.Groups.{parent_numbered}
 use Rattle.tariff.specs.Month.{group_of, is_group, is_page, kind_of_code, kind_of_group}
 use Rattle.tariff.specs.Pages.{kind_of_parent}
@@ -26,11 +29,11 @@ use Rattle.levels.specs.declared.scope.Codes.{Codes}
 use Rattle.levels.specs.declared.scope.Codes.TheVariants as codes
 use Rattle.levels.specs.declared.scope.Scope.{Scope}
 
--- the faults of a question: all of layer 1
+-- the faults of a question: all of the month's layer
 abbrev pub question_told : QuestionFault → Refusal
-question_told (NotInTable k) = refusal 2 1 k
-question_told (UnknownParticipant k) = refusal 4 1 k
-question_told (OutsidePage k) = refusal 5 1 k
+question_told (NotInTable k) = refusal cause.NotInTable layer.Month k
+question_told (UnknownParticipant k) = refusal cause.UnknownParticipant layer.Month k
+question_told (OutsidePage k) = refusal cause.OutsidePage layer.Month k
 
 -- the place that a question names, with 0 for what it does not give
 abbrev pub place_asked : Question → Key
@@ -54,23 +57,36 @@ on_page t kind d = on_kind kind (λ k. is_page t.year t.month k d)
 abbrev pub has_page : Terms → ℕ → Bool
 has_page t d = is_page t.year t.month MonthPage d || is_page t.year t.month Day d
 
+-- whether the code, group or parent that a question names is in the table; one that names none misses none
+abbrev pub names_known : Terms → Question → Bool
+names_known t (Subtotal path k) = in_table t k.code
+names_known t (Interval k) = in_table t k.code
+names_known t (Code c p d) = in_table t c
+names_known t (Group g p d) = is_group t.year t.month g
+names_known t (Parent r p d) = is_some (parent_numbered r)
+names_known t (Settlement p d) = true
+names_known t (Month p) = true
+
+-- whether its page, and its interval, are of the month and of what it names
+abbrev pub page_known : Terms → Question → Bool
+page_known t (Subtotal path k) = stands t k.code k.page k.interval
+page_known t (Interval k) = stands t k.code k.page k.interval
+page_known t (Code c p d) = on_page t (kind_of_code t.year t.month c) d
+page_known t (Group g p d) = on_page t (kind_of_group t.year t.month g) d
+page_known t (Parent r p d) = on_page t (option_map kind_of_parent (parent_numbered r)) d
+page_known t (Settlement p d) = has_page t d
+page_known t (Month p) = true
+
 -- why a question is refused, first to last
-abbrev pub question_refusals : Terms → Question → List (Bool × ℕ)
-question_refusals t (Subtotal path k) =
-    (not (in_table t k.code), 2) ∷ (not (takes_part t k.participant), 4) ∷ (not (stands t k.code k.page k.interval), 5) ∷ []
-question_refusals t (Interval k) =
-    (not (in_table t k.code), 2) ∷ (not (takes_part t k.participant), 4) ∷ (not (stands t k.code k.page k.interval), 5) ∷ []
-question_refusals t (Code c p d) =
-    (not (in_table t c), 2) ∷ (not (takes_part t p), 4) ∷ (not (on_page t (kind_of_code t.year t.month c) d), 5) ∷ []
-question_refusals t (Group g p d) =
-    (not (is_group t.year t.month g), 2) ∷ (not (takes_part t p), 4) ∷ (not (on_page t (kind_of_group t.year t.month g) d), 5) ∷ []
-question_refusals t (Parent r p d) =
-    (not (is_some (parent_numbered r)), 2) ∷ (not (takes_part t p), 4) ∷ (not (on_page t (option_map kind_of_parent (parent_numbered r)) d), 5) ∷ []
-question_refusals t (Settlement p d) = (not (takes_part t p), 4) ∷ (not (has_page t d), 5) ∷ []
-question_refusals t (Month p) = (not (takes_part t p), 4) ∷ []
+abbrev pub question_refusals : Terms → Question → List (Bool × Cause)
+question_refusals t q =
+    (not (names_known t q), cause.NotInTable)
+    ∷ (not (takes_part t (place_asked q).participant), cause.UnknownParticipant)
+    ∷ (not (page_known t q), cause.OutsidePage)
+    ∷ []
 
 abbrev pub question_refusal : Terms → Question → Option Refusal
-question_refusal t q = first_met 1 (place_asked q) (question_refusals t q)
+question_refusal t q = first_met layer.Month (place_asked q) (question_refusals t q)
 
 -- the path that a question is about; but for a subtotal both together
 abbrev pub path_asked : Question → Option Path

@@ -4,7 +4,7 @@ use Rattle.ledger.specs.Kinds.{cents}
 use Rattle.ledger.specs.Layers.{Layer, layered, path_amount}
 use Rattle.ledger.specs.Totals.{sum}
 use Rattle.ledger.specs.declared.cents.Cents.{Cents}
-use Rattle.ledger.specs.declared.key.Key.{Key}
+use Rattle.faults.specs.declared.key.Key.{Key}
 use Rattle.ledger.specs.declared.path.Path.{Path}
 use Rattle.tariff.specs.Charges.{Entry}
 use Rattle.tariff.specs.Groups.{parent_number}

@@ -1,11 +1,13 @@
 -- The terms of a month: what its opening fixes, and the keys that its amounts may stand at.
 use Rattle.std.specs.Prelude.{ℕ, Bool, false, not, ◌&&◌, List, [], ◌∷◌, map, Some, None, Option}
 use Rattle.std.specs.List.{flat_map}
-use Rattle.ledger.specs.Faults.{first_met, refusal}
-use Rattle.ledger.specs.Keys.{key_of}
+use Rattle.faults.specs.Faults.{first_met, refusal}
+use Rattle.faults.specs.Keys.{key_of, nowhere}
+use Rattle.faults.specs.declared.cause.Cause.TheVariants.{OpeningOutside}
+use Rattle.faults.specs.declared.layer.Layer.TheVariants as layer
 use Rattle.ledger.specs.Totals.{has, members, span}
-use Rattle.ledger.specs.declared.key.Key.{Key}
-use Rattle.ledger.specs.declared.refusal.Refusal.{Refusal}
+use Rattle.faults.specs.declared.key.Key.{Key}
+use Rattle.faults.specs.declared.refusal.Refusal.{Refusal}
 use Rattle.ledger.specs.declared.span.Span.{Span}
 use Rattle.tariff.specs.Calendar.{is_traded}
 use Rattle.tariff.specs.Month.{days_of, intervals_of, is_interval, kind_of_code, kind_of_group, table_of}
@@ -28,16 +30,12 @@ terms y m n = record { year = y; month = m; participants = n }
 abbrev pub terms_of : Opening → Terms
 terms_of o = terms o.month.year o.month.month o.participants
 
--- the place of what names no part of a key
-abbrev pub nowhere : Key
-nowhere = key_of 0 0 0 0
-
 abbrev pub opening_told : OpeningFault → Refusal
-opening_told Outside = refusal 1 1 nowhere
+opening_told Outside = refusal OpeningOutside layer.Month nowhere
 
 -- an opening is refused where the month is not traded, or has no participant or more than 32
 abbrev pub opening_refusal : ℕ → ℕ → ℕ → Option Refusal
-opening_refusal year month participants = first_met 1 nowhere ((not (is_traded year month && within 1 32 participants), 1) ∷ [])
+opening_refusal year month participants = first_met layer.Month nowhere ((not (is_traded year month && within 1 32 participants), OpeningOutside) ∷ [])
 
 -- its participants are numbered from 1
 abbrev pub participants_of : Terms → Span

@@ -1,10 +1,10 @@
 // The test that makes an opening.
 ghost use Rattle.std.specs.Prelude.{◌≡◌, ◌≤◌, IfOk};
-ghost use Rattle.ledger.specs.Faults.{answered};
+ghost use Rattle.faults.specs.Faults.{answered};
 ghost use Rattle.levels.specs.Terms.{terms, terms_of, opening_told, opening_refusal};
 
 use crate::opening::Opening;
-use ledger::{Fault, Key, Refusal};
+use faults::{Cause, Fault, Key, Layer, Refusal};
 use tariff::TradingMonth;
 
 // Why no month is opened.
@@ -14,24 +14,16 @@ pub enum OpeningFault {
     Outside,
 }
 
-// The place of what names no part of a key.
-fn nowhere() -> Key
-    ensures { result ≡ Rattle.levels.specs.Terms.nowhere }
-{
-    Key {
-        code: 0,
-        participant: 0,
-        page: 0,
-        interval: 0,
-    }
-}
-
 impl Fault for OpeningFault {
     ghost told = { opening_told };
 
     fn refusal(&self) -> Refusal {
         match self {
-            OpeningFault::Outside => Refusal::new(1, 1, nowhere()),
+            OpeningFault::Outside => Refusal {
+                cause: Cause::OpeningOutside,
+                layer: Layer::Month,
+                place: Key::NOWHERE,
+            },
         }
     }
 }
@@ -41,10 +33,8 @@ impl Opening {
         ensures answer { answered opening_told result ≡ opening_refusal year month participants }
         ensures holds { IfOk result (λ o. terms_of o ≡ terms year month participants) }
     {
-        let Some(month) = TradingMonth::new(year, month) else {
-            return Err(OpeningFault::Outside);
-        };
-        if participants < 1 || participants > 32 {
+        let month = TradingMonth::new(year, month).ok_or(OpeningFault::Outside)?;
+        if !(1..=32).contains(&participants) {
             return Err(OpeningFault::Outside);
         }
         Ok(Opening {

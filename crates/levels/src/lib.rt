@@ -18,9 +18,8 @@ pub use opening::Opening;
 pub use question::Question;
 pub use question_fault::QuestionFault;
 pub use scope::{Codes, Scope};
-pub use statement::{total_of, trial_balance};
+pub use statement::Statement;
 pub use theorems::levels_add_up;
-pub use totals::total_over;
 
 #[cfg(test)]
 mod tests;

@@ -5,7 +5,7 @@ ghost use Rattle.levels.specs.Questions.{has_page, in_table, on_page};
 ghost use Rattle.levels.specs.Terms.{stands, takes_part, terms_of};
 
 use crate::opening::Opening;
-use ledger::Key;
+use faults::Key;
 use tariff::PageKind;
 
 impl Opening {
@@ -33,7 +33,7 @@ impl Opening {
     pub fn has_participant(self, participant: u32) -> bool
         ensures { result ≡ takes_part (terms_of self) participant }
     {
-        1 <= participant && participant <= self.participants
+        (1..=self.participants).contains(&participant)
     }
 
     // Whether a code stands on the page of a key, in its interval.
@@ -41,20 +41,16 @@ impl Opening {
         ensures value { result ≡ stands (terms_of self) key.code key.page key.interval }
         ensures at_most { T result → key.page ≤ 31 }
     {
-        match self.month.page_kind_of_code(key.code) {
-            Some(kind) => self.month.has_interval(kind, key.page, key.interval),
-            None => false,
-        }
+        self.month.page_kind_of_code(key.code).is_some_and(|kind| self
+            .month
+            .has_interval(kind, key.page, key.interval))
     }
 
     // Whether a page is one of those that something stands on.
     pub(crate) fn is_page_of(self, kind: Option<PageKind>, page: u32) -> bool
         ensures { result ≡ on_page (terms_of self) kind page }
     {
-        match kind {
-            Some(kind) => self.month.has_page(kind, page),
-            None => false,
-        }
+        kind.is_some_and(|kind| self.month.has_page(kind, page))
     }
 
     // Whether the month has a page.

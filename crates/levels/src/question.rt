@@ -1,6 +1,7 @@
 // The questions that a client may ask of a statement, one for each of its seven levels.
 // Every number is taken as it is given; a question that the month cannot answer is refused.
-use ledger::{Key, Path};
+use faults::Key;
+use ledger::Path;
 
 #[derive(Clone, Copy)]
 pub enum Question {

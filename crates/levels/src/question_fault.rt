@@ -1,7 +1,7 @@
 // Why a question is refused: one case for each cause, with the place that the question names.
 ghost use Rattle.levels.specs.Questions.{question_told};
 
-use ledger::{Fault, Key, Refusal};
+use faults::{Cause, Fault, Key, Layer, Refusal};
 
 #[derive(Clone, Copy, PartialEq, Eq, Debug)]
 pub enum QuestionFault {
@@ -14,10 +14,15 @@ impl Fault for QuestionFault {
     ghost told = { question_told };
 
     fn refusal(&self) -> Refusal {
-        match *self {
-            QuestionFault::NotInTable(place) => Refusal::new(2, 1, place),
-            QuestionFault::UnknownParticipant(place) => Refusal::new(4, 1, place),
-            QuestionFault::OutsidePage(place) => Refusal::new(5, 1, place),
+        let (cause, place) = match *self {
+            QuestionFault::NotInTable(place) => (Cause::NotInTable, place),
+            QuestionFault::UnknownParticipant(place) => (Cause::UnknownParticipant, place),
+            QuestionFault::OutsidePage(place) => (Cause::OutsidePage, place),
+        };
+        Refusal {
+            cause,
+            layer: Layer::Month,
+            place,
         }
     }
 }

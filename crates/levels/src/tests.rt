@@ -5,10 +5,9 @@ ghost use Rattle.levels.specs.Terms.{terms_of};
 
 use crate::opening::Opening;
 use crate::question::Question;
-use crate::statement::{total_of, trial_balance};
-use ledger::{
-    AdjustFault, Adjustments, Balance, Book, Cents, Fault, Journal, Key, Line, Path, Refusal,
-};
+use crate::statement::Statement;
+use faults::{Cause, Fault, Key, Layer, Refusal};
+use ledger::{AdjustFault, Adjustments, Balance, Book, Cents, Journal, Line, Path};
 use std::test::Fail;
 
 fn at(code: u32, participant: u32, page: u32, interval: u32) -> Key {
@@ -27,6 +26,14 @@ fn refusal_of(opening: Opening, question: Question) -> Option<Refusal>
     match opening.check_question(question) {
         Ok(()) => None,
         Err(fault) => Some(fault.refusal()),
+    }
+}
+
+fn by_month(cause: Cause, place: Key) -> Refusal {
+    Refusal {
+        cause,
+        layer: Layer::Month,
+        place,
     }
 }
 
@@ -53,50 +60,51 @@ fn a_statement_is_walked_up_from_a_subtotal_to_the_month(rt: HostRuntime) -> Res
     let mut places = [Line::<Cents>::blank(); 8];
     let mut money = Adjustments::new(Journal::new(&mut places));
     enter(&mut money)?;
+    let statement = Statement {
+        opening: april,
+        money: &money,
+    };
     let key = at(6470, 1, 1, 1);
     let (participant, page) = (1, 1);
     let system = Question::Subtotal {
         path: Path::System,
         key,
     };
-    assert_eq!(rt; total_of(april, &money, system)?, Cents(-100));
+    assert_eq!(rt; statement.total(system)?, Cents(-100));
     let own = Question::Subtotal {
         path: Path::Adjustment,
         key,
     };
-    assert_eq!(rt; total_of(april, &money, own)?, Cents(12));
+    assert_eq!(rt; statement.total(own)?, Cents(12));
     // -100 + 12
-    assert_eq!(rt;
-        total_of(april, &money, Question::Interval { key })?,
-        Cents(-88)
-    );
+    assert_eq!(rt; statement.total(Question::Interval { key })?, Cents(-88));
     // and 30 in interval 2
     let code = Question::Code {
         code: 6470,
         participant,
         page,
     };
-    assert_eq!(rt; total_of(april, &money, code)?, Cents(-58));
+    assert_eq!(rt; statement.total(code)?, Cents(-58));
     // and 4 of code 491
     let group = Question::Group {
         group: 4,
         participant,
         page,
     };
-    assert_eq!(rt; total_of(april, &money, group)?, Cents(-54));
+    assert_eq!(rt; statement.total(group)?, Cents(-54));
     // and 6 of group 3
     let parent = Question::Parent {
         parent: 1,
         participant,
         page,
     };
-    assert_eq!(rt; total_of(april, &money, parent)?, Cents(-48));
+    assert_eq!(rt; statement.total(parent)?, Cents(-48));
     // and 7 under parent 3
     let settlement = Question::Settlement { participant, page };
-    assert_eq!(rt; total_of(april, &money, settlement)?, Cents(-41));
+    assert_eq!(rt; statement.total(settlement)?, Cents(-41));
     // and 1 on page 2
     assert_eq!(rt;
-        total_of(april, &money, Question::Month { participant })?,
+        statement.total(Question::Month { participant })?,
         Cents(-40)
     );
     // participant 1 is due 40, participant 2 owes 50, participant 3 has nothing
@@ -104,7 +112,7 @@ fn a_statement_is_walked_up_from_a_subtotal_to_the_month(rt: HostRuntime) -> Res
         debtors: 50,
         creditors: 40,
     };
-    assert_eq!(rt; trial_balance(april, &money), balance);
+    assert_eq!(rt; statement.trial_balance(), balance);
     Ok(())
 }
 
@@ -119,11 +127,11 @@ fn a_refused_question_names_its_place(rt: HostRuntime) -> Result<(), Fail> {
     };
     assert_eq!(rt;
         refusal_of(april, unknown),
-        Some(Refusal::new(2, 1, at(6471, 4, 1, 0)))
+        Some(by_month(Cause::NotInTable, at(6471, 4, 1, 0)))
     );
     assert_eq!(rt;
         refusal_of(april, Question::Month { participant: 4 }),
-        Some(Refusal::new(4, 1, at(0, 4, 0, 0)))
+        Some(by_month(Cause::UnknownParticipant, at(0, 4, 0, 0)))
     );
     // April has 30 days of 144 intervals
     let page_31 = Question::Settlement {
@@ -132,12 +140,12 @@ fn a_refused_question_names_its_place(rt: HostRuntime) -> Result<(), Fail> {
     };
     assert_eq!(rt;
         refusal_of(april, page_31),
-        Some(Refusal::new(5, 1, at(0, 3, 31, 0)))
+        Some(by_month(Cause::OutsidePage, at(0, 3, 31, 0)))
     );
     let key = at(6470, 3, 30, 145);
     assert_eq!(rt;
         refusal_of(april, Question::Interval { key }),
-        Some(Refusal::new(5, 1, key))
+        Some(by_month(Cause::OutsidePage, key))
     );
     let last = Question::Interval {
         key: at(6470, 3, 30, 144),

@@ -7,11 +7,12 @@ ghost use Rattle.ledger.specs.Layers.{layer};
 ghost use Rattle.ledger.specs.Totals.{total};
 ghost use Rattle.levels.specs.Scopes.{amounts_by, chosen, most_total, total_over};
 ghost use Rattle.levels.specs.Terms.{pages_of, participants_of, terms_of};
-ghost use Rattle.levels.specs.Workings.{each_intervals, found_in, found_on, narrowed};
+ghost use Rattle.levels.specs.Workings.{each_intervals, found_in, narrowed, within_scope};
 
 use crate::opening::Opening;
 use crate::scope::{Codes, Scope};
-use ledger::{Adjustments, Amount, Book, Cents, Path, Span};
+use crate::statement::Statement;
+use ledger::{Amount, Book, Cents, Extent, Path, Span};
 use tariff::{ALLOCATION_CODE, ALLOCATION_GROUP, Entry, PageKind};
 
 // A span, or the one number of it that is given.
@@ -67,71 +68,67 @@ impl Opening {
             Codes::Every => true,
             Codes::Only(only) => code == only,
             Codes::Group(of) => group == of,
-            Codes::Parent(number) => match self.month.parent_of(group) {
-                Some(parent) => parent.number() == number,
-                None => false,
-            },
+            Codes::Parent(number) => self
+                .month
+                .parent_of(group)
+                .is_some_and(|parent| u32::from(parent) == number),
             Codes::Neutral(kind) => self.month.is_neutral(group, kind),
             Codes::Offset => group == ALLOCATION_GROUP && code != ALLOCATION_CODE,
         }
     }
 }
 
-// What one code has in a scope, on pages of a kind.
-fn code_total<B: Book<Amount = Cents>>(
-    opening: Opening,
-    money: &Adjustments<B>,
-    path: Option<Path>,
-    scope: Scope,
-    code: u32,
-    kind: PageKind,
-) -> Cents
-    ensures sum { result ≡ found_on (terms_of opening) scope (amounts_by path (layer B.Book money.now)) code kind }
-    ensures size { Within cents most_lines result }
-{
-    let participants = narrowed_to(opening.every_participant(), scope.participant);
-    let pages = narrowed_to(opening.pages(kind), scope.page);
-    let intervals = narrowed_to(opening.intervals(kind), scope.interval);
-    match path {
-        Some(path) => money.path_total(path, code, participants, pages, intervals),
-        None => money.total(code, participants, pages, intervals),
+impl<'a, B: Book<Amount = Cents>> Statement<'a, B> {
+    // Where one code stands in a scope, on pages of a kind.
+    fn extent(&self, scope: Scope, code: u32, kind: PageKind) -> Extent
+        ensures { result ≡ within_scope (terms_of self.now.opening) scope code kind }
+    {
+        let opening = self.opening;
+        Extent {
+            code,
+            participants: narrowed_to(opening.every_participant(), scope.participant),
+            pages: narrowed_to(opening.pages(kind), scope.page),
+            intervals: narrowed_to(opening.intervals(kind), scope.interval),
+        }
     }
-}
 
-// What one code of the table adds to the total over a scope.
-fn entry_total<B: Book<Amount = Cents>>(
-    opening: Opening,
-    money: &Adjustments<B>,
-    path: Option<Path>,
-    scope: Scope,
-    entry: Entry,
-) -> Cents
-    ensures sum { result ≡ found_in (terms_of opening) scope (amounts_by path (layer B.Book money.now)) entry }
-    ensures size { Within cents most_lines result }
-{
-    if !opening.chooses(scope.codes, entry) {
-        return Cents(0);
+    // What came by a path, or by both together.
+    fn found(&self, path: Option<Path>, extent: Extent) -> Cents
+        ensures sum { result ≡ total cents (amounts_by path (layer B.Book self.now.money.now)) extent }
+        ensures size { Within cents most_lines result }
+    {
+        match path {
+            Some(path) => self.money.path_total(path, extent),
+            None => self.money.total(extent),
+        }
     }
-    let (code, group) = entry;
-    match opening.month.page_kind_of_group(group) {
-        Some(kind) => code_total(opening, money, path, scope, code, kind),
-        None => Cents(0),
-    }
-}
 
-// The total over a scope, of what came by a path or by both together.
-pub fn total_over<B: Book<Amount = Cents>>(
-    opening: Opening,
-    money: &Adjustments<B>,
-    path: Option<Path>,
-    scope: Scope,
-) -> Cents
-    ensures sum { result ≡ total_over (terms_of opening) scope (amounts_by path (layer B.Book money.now)) }
-    ensures size { unsigned_abs result.0 ≤ most_total }
-{
-    let mut sum = Cents(0);
-    for entry in opening.month.table() {
-        sum = sum.join(entry_total(opening, money, path, scope, *entry));
+    // What one code of the table adds to the total over a scope.
+    fn entry_total(&self, path: Option<Path>, scope: Scope, entry: Entry) -> Cents
+        ensures sum { result
+            ≡ found_in (terms_of self.now.opening) scope (amounts_by path (layer B.Book self.now.money.now)) entry }
+        ensures size { Within cents most_lines result }
+    {
+        if !self.opening.chooses(scope.codes, entry) {
+            return Cents(0);
+        }
+        let (code, group) = entry;
+        match self.opening.month.page_kind_of_group(group) {
+            Some(kind) => self.found(path, self.extent(scope, code, kind)),
+            None => Cents(0),
+        }
     }
-    sum
+
+    // The total over a scope, of what came by a path or by both together.
+    pub fn total_over(&self, path: Option<Path>, scope: Scope) -> Cents
+        ensures sum { result
+            ≡ total_over (terms_of self.now.opening) scope (amounts_by path (layer B.Book self.now.money.now)) }
+        ensures size { unsigned_abs result.0 ≤ most_total }
+    {
+        let mut sum = Cents(0);
+        for entry in self.opening.month.table() {
+            sum = sum.join(self.entry_total(path, scope, *entry));
+        }
+        sum
+    }
 }
