@@ -3,11 +3,11 @@ use Rattle.std.proofs.Common.{◌≡◌, ℕ, ◌+◌, ◌*◌, ◌<◌, ◌≤�
 use mathlib.Core.Path.{subst⁻¹}
 use native.Mathlib.Nat.{lt_of_mul-lt-mul_left}
 use Rattle.std.proofs.lemmas.List.{get_or_append_left, take_at}
-use Rattle.std.proofs.lemmas.Int.{ints}
+use Rattle.std.proofs.lemmas.Int.{ints, unsigned_abs-mul}
 use Rattle.shares.specs.Faults.{refusal, filled, shared}
 use Rattle.shares.specs.Laws.{Answers, Near, Lawful, Fair, Exact, SharedOut, FillsLawfully}
 use Rattle.shares.specs.Weights.{Split, at, total}
-use Rattle.shares.specs.Products.{abs_mul, abs_from}
+use Rattle.shares.specs.Products.{abs_from}
 use Rattle.shares.specs.Totals.{cases_total, part_le}
 use Rattle.shares.proofs.Verdicts.{granted}
 
@@ -19,7 +19,7 @@ size_le t a s x h le =
 -- a share that is near its part of an amount is no larger than the amount
 near_no_larger : (t a x s : ℤ) → Near t a x s → nat_abs x ≤ nat_abs t → nat_abs s ≤ nat_abs a
 near_no_larger t a x s h le =
-    size_le (nat_abs t) (nat_abs a) (nat_abs s) (nat_abs x) (omega (arith, ints, abs_from (t *ℤ s) (a *ℤ x), abs_mul t s, abs_mul a x)) le
+    size_le (nat_abs t) (nat_abs a) (nat_abs s) (nat_abs x) (omega (arith, ints, abs_from (t *ℤ s) (a *ℤ x), unsigned_abs-mul t s, unsigned_abs-mul a x)) le
 
 no_larger : (a : ℤ) (w s : List ℤ) → Answers a w → Lawful a w s → (i : ℕ) → i < length w → nat_abs (at s i) ≤ nat_abs a
 no_larger a w s r law i l = ⊎_elim some none (cases_total w r.none_below_zero) where

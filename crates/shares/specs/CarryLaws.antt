@@ -1,5 +1,5 @@
 -- Running carry is fair and exact.
-use Rattle.std.specs.Prelude.{◌≡◌, ℕ, ◌+◌, ◌-◌, ◌*◌, ◌/◌, ◌<◌, ◌≤◌, List, length, take, ℤ, ◌≢◌}
+use Rattle.std.specs.Prelude.{◌≡◌, ℕ, ◌+◌, ◌-◌, ◌*◌, ◌/◌, ◌<◌, ◌≤◌, List, length, take, ℤ, ◌≢◌, unsigned_abs}
 use Rattle.std.proofs.Common.{ap, ◌∙◌, ⊎_elim, arith, mul-add, mul-div_cancel, mul-le-mul_left, mul-zero}
 use Rattle.std.proofs.Math.Nat.{div-zero, zero-div, lt-mul-div-succ, mul-div-le, mul-sub}
 use Rattle.std.proofs.lemmas.Nat.{le-div}
@@ -64,10 +64,10 @@ running_carry_exact = exact_by_sizes carry_size (λ a w s p. record {
 
 -- what is carried to place i
 abbrev pub carried_to : Division → List ℤ → ℕ → Carry
-carried_to d w i = record { weighed = whole (take i w); running = running d.size w i }
+carried_to d w i = record { weighed = whole (take i w); running = running (unsigned_abs d.amount) w i }
 
 pub carried_more : (d : Division) (w : List ℤ) (i x : ℕ) → Divides d w → i < length w → x ≡ part w i → carried d (carried_to d w i) x ≡ carried_to d w (i + 1)
 carried_more d w i x v l e =
     let m : whole (take i w) + x ≡ whole (take (i + 1) w) = omega (arith, whole_more w i v.none_below_zero l) in
-    ap (λ p. record { weighed = p; running = d.size * p / d.total }) m
-    ∙ ap (λ t. record { weighed = whole (take (i + 1) w); running = d.size * whole (take (i + 1) w) / t }) v.by_total
+    ap (λ p. record { weighed = p; running = unsigned_abs d.amount * p / d.total }) m
+    ∙ ap (λ t. record { weighed = whole (take (i + 1) w); running = unsigned_abs d.amount * whole (take (i + 1) w) / t }) v.by_total

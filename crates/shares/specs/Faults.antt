@@ -1,20 +1,25 @@
 -- When a share rule refuses, what it answers, and what it leaves in the places for shares.
 use Rattle.std.specs.Prelude.{ℕ, Bool, cond, not, ◌&&◌, List, [], ◌∷◌, ◌++◌, length, drop, ℤ, Some, None, Ok, Err, Option, Result, ◌==◌, nat_lt, unsigned_abs}
-use Rattle.shares.specs.declared.fault.Refusal.{Refusal}
+use Rattle.faults.specs.Faults.{refusal as refusal_of}
+use Rattle.faults.specs.Keys.{nowhere}
+use Rattle.faults.specs.declared.cause.Cause.{Cause}
+use Rattle.faults.specs.declared.cause.Cause.TheVariants as cause
+use Rattle.faults.specs.declared.layer.Layer.TheVariants.{Rule}
+use Rattle.faults.specs.declared.refusal.Refusal.{Refusal}
 use Rattle.shares.specs.declared.fault.RuleFault.{RuleFault}
 use Rattle.shares.specs.declared.fault.RuleFault.TheVariants.{Weights, Amount, NoWeight, Places}
 use Rattle.shares.specs.Weights.{Split, amount_limit, total, weights_outside}
 
--- a refusal of layer 4, which is the rules', at a place of zeros
-abbrev pub by_rule : ℕ → Refusal
-by_rule n = record { number = n; layer = 4; code = 0; participant = 0; page = 0; interval = 0 }
+-- a refusal by the layer of rules, at a place of zeros
+abbrev pub by_rule : Cause → Refusal
+by_rule c = refusal_of c Rule nowhere
 
--- each fault by its number, layer and place
-abbrev pub told : RuleFault → Refusal
-told Weights = by_rule 7
-told Amount = by_rule 10
-told NoWeight = by_rule 11
-told Places = by_rule 13
+-- what each fault tells
+abbrev pub rule_told : RuleFault → Refusal
+rule_told Weights = by_rule cause.DemandOutside
+rule_told Amount = by_rule cause.ShareBeyondLimit
+rule_told NoWeight = by_rule cause.NoWeight
+rule_told Places = by_rule cause.TooFewPlaces
 
 -- an integer is 0
 abbrev pub is_zero : ℤ → Bool

@@ -1,14 +1,15 @@
 -- Worked figures of the three rules.
 use Rattle.std.specs.Prelude.{◌≡◌, ℕ, List, [], ◌∷◌, length, ℤ, pos, negsuc, Some, None, Option}
+use Rattle.faults.specs.Causes.{cause_number}
 use Rattle.shares.specs.declared.fault.RuleFault.{RuleFault}
-use Rattle.shares.specs.Faults.{told, refusal}
+use Rattle.shares.specs.Faults.{rule_told, refusal}
 use Rattle.shares.specs.Nearest.{nearest}
 use Rattle.shares.specs.LargestRemainder.{largest_remainder}
 use Rattle.shares.specs.RunningCarry.{running_carry}
 
 -- the number of a refusal
 abbrev pub numbered : Option RuleFault → Option ℕ
-numbered (Some f) = Some (told f).number
+numbered (Some f) = Some (cause_number (rule_told f).cause)
 numbered None = None
 
 -- the number that sharing a by w is refused with, given places enough

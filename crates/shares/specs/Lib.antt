@@ -16,3 +16,4 @@ pub mod Totals
 pub mod NearestLaws
 pub mod CarryLaws
 pub mod Quotients
+pub mod NamedRules

@@ -2,12 +2,12 @@
 use Rattle.std.specs.Prelude.{◌≡◌, ℕ, ◌+◌, ◌*◌, ◌<◌, pos, ◌*ℤ◌, int_lt, unsigned_abs}
 use Rattle.std.proofs.Common.{ap, ◌∙◌, arith, mul-zero, mul_assoc}
 use Rattle.std.proofs.Math.Nat.{lt-mul-div-succ, mul-div-le, div-zero, div-eq_of_lt}
-use Rattle.std.proofs.lemmas.Int.{ints}
+use Rattle.std.proofs.lemmas.Int.{ints, unsigned_abs-mul}
 use Rattle.shares.specs.Laws.{Fair}
 use Rattle.shares.specs.Nearest.{rounded, nearest_size, nearest, RoundsToNearest}
 use Rattle.shares.specs.Sizes.{part, whole, shares_by}
 use Rattle.shares.specs.Weights.{at, total}
-use Rattle.shares.specs.Products.{abs_mul, abs_signed}
+use Rattle.shares.specs.Products.{abs_signed}
 use Rattle.shares.specs.Sharing.{at_shares_by, off_share, fair_by_sizes}
 
 -- a rounded quotient s of n and d: s - ½ ≤ n ÷ d < s + ½
@@ -42,6 +42,6 @@ rounds_to_nearest = record {
       let o = off_share nearest_size a w i s.none_below_zero l in
       let d : 0 < whole w = omega (arith, ints) in
       let e : unsigned_abs (total w *ℤ at (shares_by nearest_size a w) i) ≡ whole w * nearest_size (unsigned_abs a) w i =
-      abs_mul (total w) (at (shares_by nearest_size a w) i) ∙ ap (λ x. whole w * unsigned_abs x) (at_shares_by nearest_size a w i l) ∙ ap (λ x. whole w * x) (abs_signed (int_lt a (pos 0)) (nearest_size (unsigned_abs a) w i)) in
-      omega (arith, ints, abs_mul a (at w i), rounded_low n (whole w), rounded_high n (whole w) d);
+      unsigned_abs-mul (total w) (at (shares_by nearest_size a w) i) ∙ ap (λ x. whole w * unsigned_abs x) (at_shares_by nearest_size a w i l) ∙ ap (λ x. whole w * x) (abs_signed (int_lt a (pos 0)) (nearest_size (unsigned_abs a) w i)) in
+      omega (arith, ints, unsigned_abs-mul a (at w i), rounded_low n (whole w), rounded_high n (whole w) d);
 }

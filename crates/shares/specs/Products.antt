@@ -1,5 +1,5 @@
 -- Sizes of products and differences, and how far a signed share is from its part.
-use Rattle.std.specs.Prelude.{◌≡◌, ℕ, zero, suc, ◌+◌, ◌-◌, ◌*◌, ◌≤◌, Bool, true, false, ℤ, pos, negsuc, ◌-ℤ◌, ◌*ℤ◌, neg_ℤ, ◌≤ℤ◌, int_lt, unsigned_abs, refl}
+use Rattle.std.specs.Prelude.{◌≡◌, ℕ, zero, suc, ◌+◌, ◌-◌, ◌*◌, ◌≤◌, Bool, true, false, ℤ, pos, negsuc, ◌-ℤ◌, neg_ℤ, ◌≤ℤ◌, int_lt, unsigned_abs, refl}
 use Rattle.std.proofs.Common.{ap, ◌∙◌, arith, mul-zero}
 use Rattle.std.proofs.lemmas.Int.{ints}
 use Rattle.std.proofs.lemmas.Bool.{le-ltb}
@@ -9,12 +9,6 @@ use Rattle.shares.specs.Sizes.{signed}
 abs_neg : (n : ℕ) → unsigned_abs (neg_ℤ (pos n)) ≡ n
 abs_neg zero = refl
 abs_neg (suc n) = refl
-
-pub abs_mul : (x y : ℤ) → unsigned_abs (x *ℤ y) ≡ unsigned_abs x * unsigned_abs y
-abs_mul (pos a) (pos b) = refl
-abs_mul (pos a) (negsuc b) = abs_neg (a * suc b)
-abs_mul (negsuc a) (pos b) = abs_neg (suc a * b)
-abs_mul (negsuc a) (negsuc b) = refl
 
 pub abs_from : (x y : ℤ) → unsigned_abs x ≤ unsigned_abs (x -ℤ y) + unsigned_abs y
 abs_from x y = omega (arith, ints)

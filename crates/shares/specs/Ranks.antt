@@ -4,12 +4,12 @@ use Rattle.std.proofs.Common.{sym, ap, ◌∙◌}
 use Rattle.std.proofs.Math.Logic.{⊎_elim}
 use native.Mathlib.Omega.{arith}
 use Rattle.std.proofs.lemmas.List.{take_all}
-use Rattle.std.proofs.lemmas.List.Sums.{sum_by-cons, sum_by-take-le, count_by_more_yes, count_by_more_no}
+use Rattle.std.proofs.lemmas.List.Sums.{sum_by-cons, sum_by-le-sum_by, sum_by-take-le, count_by_more_yes, count_by_more_no}
 use Rattle.std.proofs.lemmas.Bool.{cases_lt, cases_eq, cases_order, le-leb, lt-ltb, le-ltb, eq-eqb, ne_eqb}
 use Rattle.std.proofs.lemmas.Bool.Decides.{nat_tests}
 use Rattle.shares.specs.LargestRemainder.{above, alike, rank, cent}
 use Rattle.shares.specs.Workings.{dealt, Edge, ties_left}
-use Rattle.shares.specs.Counts.{sumBy_mono, sumBy_both_le, sumBy_le_both}
+use Rattle.shares.specs.Counts.{sum_by_both_le, sum_by_le_both}
 
 -- how many remainders are at the edge or above
 abbrev pub from : ℕ → List ℕ → ℕ
@@ -26,7 +26,7 @@ pub edge_below : (rs : List ℕ) (m k : ℕ) → from k rs ≤ m → m ≤ lengt
 edge_below rs m zero h l = (
   0,
   record {
-    few_above = omega (arith, sumBy_mono (λ r. cond (nat_lt 0 r) 1 0) (λ r. cond (nat_le 0 r) 1 0) (λ r. grind (arith, nat_tests)) rs);
+    few_above = omega (arith, sum_by-le-sum_by (λ r. cond (nat_lt 0 r) 1 0) (λ r. cond (nat_le 0 r) 1 0) rs (λ r. grind (arith, nat_tests)));
     enough_from = omega (arith, all_from_zero rs);
   },
 )
@@ -43,14 +43,14 @@ module _ (rs : List ℕ) (m t : ℕ) (edge : Edge rs m t) where
       let r : ℕ = slice_index_or rs i 0 in
       let one = count_by_more_yes (λ x. nat_eq x r) rs i 0 l (eq-eqb r r refl) in
       let le = sum_by-take-le (λ x. cond (x == r) 1 0) rs (i + 1) in
-      let both = sumBy_both_le (λ x. cond (nat_lt r x) 1 0) (λ x. cond (x == r) 1 0) (λ x. cond (nat_lt t x) 1 0) (λ x. grind (arith, nat_tests)) rs in
+      let both = sum_by_both_le (λ x. cond (nat_lt r x) 1 0) (λ x. cond (x == r) 1 0) (λ x. cond (nat_lt t x) 1 0) (λ x. grind (arith, nat_tests)) rs in
       let low : rank rs i < m = omega (arith, edge.few_above) in
       ap (λ b. cond b 1 0) (lt-ltb (rank rs i) m low)
 
   cent_below : (i : ℕ) → i < length rs → slice_index rs i < t → cent rs m i ≡ 0
   cent_below i l h =
       let r : ℕ = slice_index_or rs i 0 in
-      let le = sumBy_mono (λ x. cond (nat_le t x) 1 0) (λ x. cond (nat_lt r x) 1 0) (λ x. grind (arith, nat_tests)) rs in
+      let le = sum_by-le-sum_by (λ x. cond (nat_le t x) 1 0) (λ x. cond (nat_lt r x) 1 0) rs (λ x. grind (arith, nat_tests)) in
       let high : m ≤ rank rs i = omega (arith, edge.enough_from) in
       ap (λ b. cond b 1 0) (le-ltb (rank rs i) m high)
 
@@ -127,5 +127,5 @@ module _ (rs : List ℕ) (m t : ℕ) (edge : Edge rs m t) where
   unfolding cents
   cents_all =
       let e = take_all (length rs) rs (omega arith) in
-      let both = sumBy_le_both (λ x. cond (nat_le t x) 1 0) (λ x. cond (nat_lt t x) 1 0) (λ x. cond (x == t) 1 0) (λ x. grind (arith, nat_tests)) rs in
+      let both = sum_by_le_both (λ x. cond (nat_le t x) 1 0) (λ x. cond (nat_lt t x) 1 0) (λ x. cond (x == t) 1 0) (λ x. grind (arith, nat_tests)) rs in
       rw e (omega (arith, edge.few_above, edge.enough_from))

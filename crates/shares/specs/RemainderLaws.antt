@@ -4,14 +4,14 @@ use Rattle.std.proofs.Common.{sym, ap, ◌∙◌, ⊎_elim, arith, mul-add, mul_
 use Rattle.std.proofs.Math.Nat.{div-add-mod, div-zero, le_of_mul-le-mul_left, mul-sub, zero-div, zero-mod}
 use Rattle.std.proofs.lemmas.Nat.{mod_below}
 use Rattle.std.proofs.lemmas.List.{get_or-map, length-map, take_all}
-use Rattle.std.proofs.lemmas.List.Sums.{count_by-le-length, sum_by_more}
+use Rattle.std.proofs.lemmas.List.Sums.{count_by-le-length, sum_by-le-sum_by, sum_by_more}
 use Rattle.std.proofs.lemmas.Bool.{cases_eq, cond_both, le-ltb, lt-leb, ltb-false}
 use Rattle.shares.specs.LargestRemainder.{rounded_down, remainder, remainders, missing, above, rank, cent, remainder_size, largest_remainder}
 use Rattle.shares.specs.Laws.{Fair, Exact}
 use Rattle.shares.specs.Sizes.{part, whole}
 use Rattle.shares.specs.Weights.{at, NoneBelowZero}
 use Rattle.shares.specs.Workings.{Edge, held}
-use Rattle.shares.specs.Counts.{sumBy_mono, sumBy_same, sumBy_both, sumBy_scale, sumBy_map, sumBy_none}
+use Rattle.shares.specs.Counts.{sum_by_same, sum_by_both, sum_by_scale, sum_by_map, sum_by_none}
 use Rattle.shares.specs.Ranks as ranks
 use Rattle.shares.specs.Ranks.{from, edge_below}
 use Rattle.shares.specs.Sharing.{fair_by_sizes, exact_by_sizes}
@@ -24,10 +24,10 @@ module _ (a : ℕ) (w : List ℤ) (sound : NoneBelowZero w) (some : 0 < whole w)
   -- the amount, by what is rounded down and what that leaves
   parts_and_remainders : whole w * sum_by (rounded_down a w) w + sum_by (remainder a w) w ≡ a * whole w
   parts_and_remainders =
-      ap (λ n. n + sum_by (remainder a w) w) (sym (sumBy_scale (whole w) (rounded_down a w) w))
-      ∙ sym (sumBy_both (λ x. whole w * rounded_down a w x) (remainder a w) w)
-      ∙ sumBy_same (λ x. whole w * rounded_down a w x + remainder a w x) (λ x. a * unsigned_abs x) (λ x. div-add-mod (a * unsigned_abs x) (whole w)) w
-      ∙ sumBy_scale a unsigned_abs w
+      ap (λ n. n + sum_by (remainder a w) w) (sym (sum_by_scale (whole w) (rounded_down a w) w))
+      ∙ sym (sum_by_both (λ x. whole w * rounded_down a w x) (remainder a w) w)
+      ∙ sum_by_same (λ x. whole w * rounded_down a w x + remainder a w x) (λ x. a * unsigned_abs x) (λ x. div-add-mod (a * unsigned_abs x) (whole w)) w
+      ∙ sum_by_scale a unsigned_abs w
       ∙ ap (λ n. a * n) (sym (whole_is w sound))
 
   rounded_down_le : sum_by (rounded_down a w) w ≤ a
@@ -40,16 +40,16 @@ module _ (a : ℕ) (w : List ℤ) (sound : NoneBelowZero w) (some : 0 < whole w)
   missing_le_above : missing a w ≤ above 0 (remainders a w)
   missing_le_above =
       let p : sum_by (remainder a w) w ≤ sum_by (λ x. whole w * cond (nat_lt 0 (remainder a w x)) 1 0) w =
-      sumBy_mono (remainder a w) (λ x. whole w * cond (nat_lt 0 (remainder a w x)) 1 0) (λ x. small (remainder a w x) (mod_below (a * unsigned_abs x) (whole w) some)) w in
+      sum_by-le-sum_by (remainder a w) (λ x. whole w * cond (nat_lt 0 (remainder a w x)) 1 0) w (λ x. small (remainder a w x) (mod_below (a * unsigned_abs x) (whole w) some)) in
       le_from_mul (whole w) (missing a w) (above 0 (remainders a w)) some
-      (rw (missing_remainders, sumBy_map (λ r. cond (nat_lt 0 r) 1 0) (remainder a w) w, ← sumBy_scale (whole w) (λ x. cond (nat_lt 0 (remainder a w x)) 1 0) w) p) where
+      (rw (missing_remainders, sum_by_map (λ r. cond (nat_lt 0 r) 1 0) (remainder a w) w, ← sum_by_scale (whole w) (λ x. cond (nat_lt 0 (remainder a w x)) 1 0) w) p) where
         small : (r : ℕ) → r < whole w → r ≤ whole w * cond (nat_lt 0 r) 1 0
         small r h = cond_both (nat_lt 0 r) 1 0 (λ n. r ≤ whole w * n) (λ e. omega arith) (λ e. omega (arith, ltb-false 0 r e))
 
   none_from_whole : from (whole w) (remainders a w) ≡ 0
   none_from_whole =
-      sumBy_map (λ r. cond (nat_le (whole w) r) 1 0) (remainder a w) w
-      ∙ sumBy_none (λ x. cond (nat_le (whole w) (remainder a w x)) 1 0) (λ x. ap (λ b. cond {A = ℕ} b 1 0) (lt-leb (whole w) (remainder a w x) (mod_below (a * unsigned_abs x) (whole w) some))) w
+      sum_by_map (λ r. cond (nat_le (whole w) r) 1 0) (remainder a w) w
+      ∙ sum_by_none (λ x. cond (nat_le (whole w) (remainder a w x)) 1 0) (λ x. ap (λ b. cond {A = ℕ} b 1 0) (lt-leb (whole w) (remainder a w x) (mod_below (a * unsigned_abs x) (whole w) some))) w
 
   some_edge : (t : ℕ) × Edge (remainders a w) (missing a w) t
   some_edge = edge_below (remainders a w) (missing a w) (whole w) (omega (arith, none_from_whole)) (omega (arith, missing_le_above, count_by-le-length (λ r. ltb 0 r) (remainders a w)))
@@ -64,7 +64,7 @@ module _ (a : ℕ) (w : List ℤ) (sound : NoneBelowZero w) (some : 0 < whole w)
 
 pub rounded_down_sum_le : (a : ℕ) (w : List ℤ) → NoneBelowZero w → sum_by (rounded_down a w) w ≤ a
 rounded_down_sum_le a w s =
-    ⊎_elim (λ z. omega (arith, sumBy_none (rounded_down a w) (λ x. ap (λ t. a * unsigned_abs x / t) z ∙ div-zero (a * unsigned_abs x)) w)) (λ n. rounded_down_le a w s (omega arith)) (cases_eq (whole w) 0)
+    ⊎_elim (λ z. omega (arith, sum_by_none (rounded_down a w) (λ x. ap (λ t. a * unsigned_abs x / t) z ∙ div-zero (a * unsigned_abs x)) w)) (λ n. rounded_down_le a w s (omega arith)) (cases_eq (whole w) 0)
 
 -- at most one cent for each weight is missing
 pub missing_le : (a : ℕ) (w : List ℤ) → NoneBelowZero w → (whole w ≡ 0 → a ≡ 0) → missing a w ≤ length w
@@ -75,8 +75,8 @@ missing_le a w s ok = ⊎_elim (λ z. omega (arith, ok z)) some (cases_eq (whole
 -- no remainder is above the total
 pub none_above_whole : (a : ℕ) (w : List ℤ) → (whole w ≡ 0 → a ≡ 0) → above (whole w) (remainders a w) ≡ 0
 none_above_whole a w ok =
-    sumBy_map (λ r. cond (nat_lt (whole w) r) 1 0) (remainder a w) w
-    ∙ sumBy_none (λ x. cond (nat_lt (whole w) (remainder a w x)) 1 0) (λ x. ap (λ b. cond {A = ℕ} b 1 0) (le-ltb (whole w) (remainder a w x) (small x))) w where
+    sum_by_map (λ r. cond (nat_lt (whole w) r) 1 0) (remainder a w) w
+    ∙ sum_by_none (λ x. cond (nat_lt (whole w) (remainder a w x)) 1 0) (λ x. ap (λ b. cond {A = ℕ} b 1 0) (le-ltb (whole w) (remainder a w x) (small x))) w where
       small : (x : ℤ) → remainder a w x ≤ whole w
       small x = ⊎_elim none some (cases_eq (whole w) 0) where
         none : whole w ≡ 0 → remainder a w x ≤ whole w

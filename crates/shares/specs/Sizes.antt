@@ -1,9 +1,6 @@
 -- How a rule works on sizes: it divides the amount's size by the weights' total, and puts the sign back after.
-use Rattle.std.specs.Prelude.{ℕ, Bool, true, false, List, map, length, ℤ, pos, neg_ℤ, Result, int_lt, unsigned_abs}
+use Rattle.std.specs.Prelude.{ℕ, Bool, true, false, List, map, length, ℤ, pos, neg_ℤ, int_lt, unsigned_abs}
 use Rattle.std.specs.List.{range_with_len}
-use Rattle.shares.specs.declared.division.Division.{Division}
-use Rattle.shares.specs.declared.fault.RuleFault.{RuleFault}
-use Rattle.shares.specs.Faults.{answered, refusal}
 use Rattle.shares.specs.Weights.{at, total}
 
 -- the size of the weight at place i
@@ -19,22 +16,10 @@ abbrev pub signed : Bool → ℕ → ℤ
 signed false n = pos n
 signed true n = neg_ℤ (pos n)
 
--- what is divided where a is shared by w
-abbrev pub division : ℤ → List ℤ → Division
-division a w = record { negative = int_lt a (pos 0); size = unsigned_abs a; total = whole w }
-
--- what is to be divided where a is shared by w into n places, unless that is refused
-abbrev pub admission : ℤ → List ℤ → ℕ → Result Division RuleFault
-admission a w n = answered (refusal a w n) (division a w)
-
 -- how large the share at each place is, by the amount's size and the weights
 abbrev pub Sizing : Type 0
 Sizing = ℕ → List ℤ → ℕ → ℕ
 
--- the shares of a division by w
-abbrev pub sharing : Sizing → Division → List ℤ → List ℤ
-sharing size d w = map (λ i. signed d.negative (size d.size w i)) (range_with_len 0 (length w))
-
 -- the shares of a by w
 abbrev pub shares_by : Sizing → ℤ → List ℤ → List ℤ
-shares_by size a w = sharing size (division a w) w
+shares_by size a w = map (λ i. signed (int_lt a (pos 0)) (size (unsigned_abs a) w i)) (range_with_len 0 (length w))

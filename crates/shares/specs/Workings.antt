@@ -1,34 +1,33 @@
--- What the rules' inner functions promise one another. No rule stands here.
-use Rattle.std.specs.Prelude.{◌≡◌, ℕ, ◌+◌, ◌-◌, ◌*◌, ◌/◌, ◌≤◌, min, cond, ◌||◌, List, map, ℤ, pos, Some, None, count_by, Option, ◌==◌, int_lt, nat_le, nat_lt, unsigned_abs}
+-- What admitting an amount and weights answers, and what the rules' inner functions promise one another.
+-- No rule stands here.
+use Rattle.std.specs.Prelude.{◌≡◌, ℕ, ◌+◌, ◌-◌, ◌*◌, ◌/◌, ◌≤◌, min, cond, ◌||◌, List, map, ℤ, pos, Some, None, Ok, Err, count_by, Option, Result, ◌==◌, int_lt, nat_le, nat_lt, unsigned_abs}
 use Rattle.shares.specs.declared.division.Division.{Division}
 use Rattle.shares.specs.declared.fault.RuleFault.{RuleFault}
 use Rattle.shares.specs.declared.fault.RuleFault.TheVariants.{Weights}
 use Rattle.shares.specs.declared.running_carry.Carry.{Carry}
+use Rattle.shares.specs.Faults.{refusal}
 use Rattle.shares.specs.LargestRemainder.{above}
 use Rattle.shares.specs.Sizes.{whole}
-use Rattle.shares.specs.Weights.{weight_limit, amount_limit, NoneBelowZero}
+use Rattle.shares.specs.Weights.{weight_limit, NoneBelowZero}
 
 -- why a weight x is refused after others of the total t, if it is
 abbrev pub weight_refusal : ℕ → ℤ → Option RuleFault
 weight_refusal t x = cond (int_lt x (pos 0) || nat_lt weight_limit (t + unsigned_abs x)) (Some Weights) None
 
--- a division within the limits, and a part of its total
-pub record Within (d : Division) (x : ℕ) : Type 0 where
-  pub size_within : d.size ≤ amount_limit
-  pub total_within : d.total ≤ weight_limit
-  pub part_within : x ≤ d.total
+-- sharing a by w into n places is admitted as the division of a by the total of w, unless it is refused
+abbrev pub Admission : ℤ → List ℤ → ℕ → Result Division RuleFault → Type 0
+Admission a w n (Ok d) = (refusal a w n ≡ None) × (d.amount ≡ a) × (d.total ≡ whole w)
+Admission a w n (Err f) = refusal a w n ≡ Some f
 
 -- a division by the weights w that a rule may work on
 pub record Divides (d : Division) (w : List ℤ) : Type 0 where
   pub none_below_zero : NoneBelowZero w
   pub by_total : d.total ≡ whole w
-  pub some_weight : whole w ≡ 0 → d.size ≡ 0
-  pub size_within : d.size ≤ amount_limit
-  pub total_within : d.total ≤ weight_limit
+  pub some_weight : whole w ≡ 0 → unsigned_abs d.amount ≡ 0
 
 -- what is carried on once a division has taken in a further part x
 abbrev pub carried : Division → Carry → ℕ → Carry
-carried d c x = record { weighed = c.weighed + x; running = d.size * (c.weighed + x) / d.total }
+carried d c x = record { weighed = c.weighed + x; running = unsigned_abs d.amount * (c.weighed + x) / d.total }
 
 -- an edge between the m largest remainders and the others: no more than m are above it, and m or more from it on
 pub record Edge (rs : List ℕ) (m edge : ℕ) : Type 0 where

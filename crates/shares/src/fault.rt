@@ -1,7 +1,8 @@
-// Why a share rule refuses: one case for each cause, and what each is told as.
+// Why a share rule refuses: one case for each cause, and what each tells.
 // A rule knows of no key, so the place of its refusals is all zeros; a layer above carries the fault whole.
-ghost use Rattle.std.specs.Prelude.{◌≡◌};
-ghost use Rattle.shares.specs.Faults.{told};
+ghost use Rattle.shares.specs.Faults.{rule_told};
+
+use faults::{Cause, Fault, Key, Layer, Refusal};
 
 #[derive(Clone, Copy, PartialEq, Eq, Debug)]
 pub enum RuleFault {
@@ -15,34 +16,20 @@ pub enum RuleFault {
     Places,
 }
 
-// A refusal in numbers: the cause's, the layer's, and the place's four.
-#[derive(Clone, Copy, PartialEq, Eq, Debug)]
-pub struct Refusal {
-    pub number: u8,
-    pub layer: u8,
-    pub code: u32,
-    pub participant: u32,
-    pub page: u32,
-    pub interval: u32,
-}
+impl Fault for RuleFault {
+    ghost told = { rule_told };
 
-impl RuleFault {
-    pub fn refusal(self) -> Refusal
-        ensures { result ≡ told self }
-    {
-        let number = match self {
-            RuleFault::Weights => 7,
-            RuleFault::Amount => 10,
-            RuleFault::NoWeight => 11,
-            RuleFault::Places => 13,
+    fn refusal(&self) -> Refusal {
+        let cause = match self {
+            RuleFault::Weights => Cause::DemandOutside,
+            RuleFault::Amount => Cause::ShareBeyondLimit,
+            RuleFault::NoWeight => Cause::NoWeight,
+            RuleFault::Places => Cause::TooFewPlaces,
         };
         Refusal {
-            number,
-            layer: 4,
-            code: 0,
-            participant: 0,
-            page: 0,
-            interval: 0,
+            cause,
+            layer: Layer::Rule,
+            place: Key::NOWHERE,
         }
     }
 }

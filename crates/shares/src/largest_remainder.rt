@@ -1,9 +1,9 @@
 // Largest remainder: each part rounded down, and the missing cents to the largest remainders, ties to the lower
 // participant. The places hold the remainders until each gets its share, so no other memory is needed, and the
 // edge between those with a cent and those without is found by bisection.
-ghost use Rattle.std.specs.Prelude.{◌≡◌, ◌-◌, ◌≤◌, min, map, length, pos, sum_by};
+ghost use Rattle.std.specs.Prelude.{◌≡◌, ◌-◌, ◌≤◌, min, map, length, pos, sum_by, unsigned_abs};
 ghost use Rattle.shares.specs.LargestRemainder.{above, largest_remainder, remainder_size, remainders, rounded_down};
-ghost use Rattle.shares.specs.Sizes.{sharing};
+ghost use Rattle.shares.specs.Sizes.{shares_by};
 ghost use Rattle.shares.specs.Workings.{dealt, Divides, Edge, held, ties_left};
 ghost use Rattle.shares.specs.RemainderLaws.{largest_remainder_fair, largest_remainder_exact};
 
@@ -20,10 +20,11 @@ pub struct LargestRemainder;
 fn round_down(division: Division, weights: &[i64], places: &mut [i64]) -> u64
     requires divides { Divides division weights.now }
     requires places { length places.old ≡ length weights.now }
-    ensures sum { result ≡ sum_by (rounded_down division.size weights.now) weights.now }
-    ensures remainders { places.new ≡ map pos (remainders division.size weights.now) }
+    ensures sum { result ≡ sum_by (rounded_down (unsigned_abs division.amount) weights.now) weights.now }
+    ensures remainders { places.new ≡ map pos (remainders (unsigned_abs division.amount) weights.now) }
 {
     let mut sum: u64 = 0;
+    // By index: of places written through `zip` and `iter_mut` nothing is known once the loop is over.
     for (i, weight) in weights.iter().enumerate() {
         let part = weight.unsigned_abs();
         sum += division.rounded_down(part);
@@ -36,13 +37,10 @@ fn round_down(division: Division, weights: &[i64], places: &mut [i64]) -> u64
 fn count_above(remainders: &[i64], edge: u64) -> u64
     ensures { result ≡ above edge (held remainders.now) }
 {
-    let mut count: u64 = 0;
-    for remainder in remainders {
-        if remainder.unsigned_abs() > edge {
-            count += 1;
-        }
-    }
-    count
+    remainders
+        .iter()
+        .filter(|remainder| remainder.unsigned_abs() > edge)
+        .count() as u64
 }
 
 // The edge between the `cents` largest remainders and the others; none is above `most`.
@@ -51,10 +49,11 @@ fn find_edge(remainders: &[i64], cents: u64, most: u64) -> u64
     requires none { above most (held remainders.now) ≡ 0 }
     ensures { Edge (held remainders.now) cents result }
 {
+    // Bisected by hand: it is sought among numbers, and the library searches slices.
     let mut low: u64 = 0;
     let mut high: u64 = most;
     while low < high {
-        let middle = low + (high - low) / 2;
+        let middle = low.midpoint(high);
         if count_above(remainders, middle) <= cents {
             high = middle;
         } else {
@@ -90,11 +89,12 @@ fn deal(edge: u64, ties: &mut u64, remainder: u64) -> u64
 fn share_out(division: Division, weights: &[i64], places: &mut [i64])
     requires divides { Divides division weights.now }
     requires places { length places.old ≡ length weights.now }
-    ensures { places.new ≡ sharing remainder_size division weights.now }
+    ensures { places.new ≡ shares_by remainder_size division.amount weights.now }
 {
-    let cents = division.size - round_down(division, weights, places);
+    let cents = division.size() - round_down(division, weights, places);
     let edge = find_edge(places, cents, division.total);
     let mut ties = cents - count_above(places, edge);
+    // By index: of places written through `zip` and `iter_mut` nothing is known once the loop is over.
     for (i, weight) in weights.iter().enumerate() {
         let cent = deal(edge, &mut ties, places[i].unsigned_abs());
         let size = division.rounded_down(weight.unsigned_abs()) + cent;

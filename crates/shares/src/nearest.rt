@@ -17,6 +17,7 @@ impl ShareRule for Nearest {
 
     fn share(&self, amount: i64, weights: &[i64], shares: &mut [i64]) -> Result<(), RuleFault> {
         let division = admit(amount, weights, shares.len())?;
+        // By index: of places written through `zip` and `iter_mut` nothing is known once the loop is over.
         for (i, weight) in weights.iter().enumerate() {
             let size = division.nearest(weight.unsigned_abs());
             shares[i] = division.signed(size);

@@ -2,7 +2,7 @@
 // What rounding down takes from one is carried to the next, so the shares add up to the amount.
 ghost use Rattle.std.specs.Prelude.{◌≡◌, ◌+◌, ◌-◌, ◌≤◌};
 ghost use Rattle.shares.specs.RunningCarry.{running_carry};
-ghost use Rattle.shares.specs.Workings.{carried, Within};
+ghost use Rattle.shares.specs.Workings.{carried};
 ghost use Rattle.shares.specs.CarryLaws.{running_carry_fair, running_carry_exact};
 
 use crate::division::Division;
@@ -23,7 +23,7 @@ struct Carry {
 impl Carry {
     // Takes the next weight in, and answers by how much the running total grows.
     fn take_in(&mut self, division: Division, part: u64) -> u64
-        requires within { Within division (self.old.weighed + part) }
+        requires within { self.old.weighed + part ≤ division.total }
         requires grows { self.old.running ≤ (carried division self.old part).running }
         ensures growth { result ≡ (carried division self.old part).running - self.old.running }
         ensures after { self.new ≡ carried division self.old part }
@@ -46,6 +46,7 @@ impl ShareRule for RunningCarry {
             weighed: 0,
             running: 0,
         };
+        // By index: of places written through `zip` and `iter_mut` nothing is known once the loop is over.
         for (i, weight) in weights.iter().enumerate() {
             let size = carry.take_in(division, weight.unsigned_abs());
             shares[i] = division.signed(size);

@@ -1,5 +1,6 @@
 // Cases that a person would try, on real places.
-use crate::{LargestRemainder, Nearest, RuleFault, RunningCarry, ShareRule};
+use crate::{LargestRemainder, NamedRule, Nearest, RuleFault, RunningCarry, ShareRule};
+use faults::Fault;
 use std::test::Fail;
 
 const DEMANDS: [i64; 4] = [265, 360, 385, 480];
@@ -12,6 +13,18 @@ fn three_rules_share_the_same_amount(rt: HostRuntime) -> Result<(), Fail> {
     LargestRemainder.share(-800_000, &DEMANDS, &mut shares)?;
     assert_eq!(rt; shares, [-142_282, -193_289, -206_711, -257_718]);
     RunningCarry.share(800_000, &DEMANDS, &mut shares)?;
+    assert_eq!(rt; shares, [142_281, 193_289, 206_711, 257_719]);
+    Ok(())
+}
+
+#[test]
+fn a_name_shares_as_its_rule_does(rt: HostRuntime) -> Result<(), Fail> {
+    let mut shares = [0; 4];
+    NamedRule::Nearest.share(800_000, &DEMANDS, &mut shares)?;
+    assert_eq!(rt; shares, [142_282, 193_289, 206_711, 257_718]);
+    NamedRule::LargestRemainder.share(-800_000, &DEMANDS, &mut shares)?;
+    assert_eq!(rt; shares, [-142_282, -193_289, -206_711, -257_718]);
+    NamedRule::RunningCarry.share(800_000, &DEMANDS, &mut shares)?;
     assert_eq!(rt; shares, [142_281, 193_289, 206_711, 257_719]);
     Ok(())
 }
@@ -81,5 +94,5 @@ fn weights_as_large_as_can_be_are_refused(rt: HostRuntime) {
         RunningCarry.share(1, &weights, &mut shares),
         Err(RuleFault::Weights)
     );
-    assert_eq!(rt; RuleFault::Weights.refusal().number, 7);
+    assert_eq!(rt; RuleFault::Weights.refusal().cause.number(), 7);
 }

@@ -1,9 +1,9 @@
 // What a rule takes: the limits, and the checks that every rule makes first, in the order of their numbers.
-ghost use Rattle.std.specs.Prelude.{◌≡◌, ◌+◌, ◌≤◌, unsigned_abs};
+ghost use Rattle.std.specs.Prelude.{◌≡◌, ◌+◌, ◌≤◌, IfOk, unsigned_abs};
 ghost use Rattle.shares.specs.Faults.{answered, weights_refusal};
-ghost use Rattle.shares.specs.Sizes.{admission, whole};
+ghost use Rattle.shares.specs.Sizes.{whole};
 ghost use Rattle.shares.specs.Weights.{weight_limit};
-ghost use Rattle.shares.specs.Workings.{weight_refusal};
+ghost use Rattle.shares.specs.Workings.{Admission, weight_refusal};
 
 use crate::division::Division;
 use crate::fault::RuleFault;
@@ -16,13 +16,12 @@ pub const AMOUNT_LIMIT: u64 = 100_000_000;
 
 // The total with one weight more, unless that is below 0 or takes the total above its limit.
 fn add_weight(total: u64, weight: i64) -> Result<u64, RuleFault>
-    requires { total ≤ weight_limit }
     ensures { result ≡ answered (weight_refusal total weight) (total + unsigned_abs weight) }
 {
     if weight < 0 {
         return Err(RuleFault::Weights);
     }
-    let sum = total + weight.unsigned_abs();
+    let sum = total.saturating_add(weight.unsigned_abs());
     if sum > WEIGHT_LIMIT {
         return Err(RuleFault::Weights);
     }
@@ -32,8 +31,10 @@ fn add_weight(total: u64, weight: i64) -> Result<u64, RuleFault>
 // The total of the weights, unless one is below 0 or the total is above its limit.
 // It only grows, so the first weight that takes it too far decides, and no sum is ever too large for its type.
 pub fn total_weight(weights: &[i64]) -> Result<u64, RuleFault>
-    ensures { result ≡ answered (weights_refusal weights.now) (whole weights.now) }
+    ensures total { result ≡ answered (weights_refusal weights.now) (whole weights.now) }
+    ensures within { IfOk result (λ total. total ≤ weight_limit) }
 {
+    // A `for` with `?`: `try_fold` reads no plainer, and of its total a proof knows only the calls that made it.
     let mut total: u64 = 0;
     for weight in weights {
         total = add_weight(total, *weight)?;
@@ -43,7 +44,7 @@ pub fn total_weight(weights: &[i64]) -> Result<u64, RuleFault>
 
 // What is to be divided, unless a rule refuses the amount, the weights or the number of places.
 pub fn admit(amount: i64, weights: &[i64], places: usize) -> Result<Division, RuleFault>
-    ensures { result ≡ admission amount weights.now places }
+    ensures { Admission amount weights.now places result }
 {
     let total = total_weight(weights)?;
     let size = amount.unsigned_abs();
@@ -56,9 +57,5 @@ pub fn admit(amount: i64, weights: &[i64], places: usize) -> Result<Division, Ru
     if places < weights.len() {
         return Err(RuleFault::Places);
     }
-    Ok(Division {
-        negative: amount < 0,
-        size,
-        total,
-    })
+    Ok(Division { amount, total })
 }

@@ -10,8 +10,8 @@ use Rattle.shares.specs.Totals.{total_more}
 use Rattle.shares.proofs.Verdicts.{inside, weight_taken, weight_refused}
 use Rattle.shares.proofs.weights.total_weight.Goals as goal
 
-pub returns-in_err-total : goal.returns-in_err-total
-returns-in_err-total c =
+pub returns-in_err-total-clause-total : goal.returns-in_err-total-clause-total
+returns-in_err-total-clause-total c =
     let w = c.args.weights.now in
     let f : SFits w64 (at w c.loop-weight.weight-index) = search rules in
     let r = weight_refused w _ _ _ c.loop-weight-test.true c.loop-weight.invariant.1 (simp to_z-of_z at c.in_err-total.ensures) in
@@ -28,8 +28,8 @@ loop-weight-preserved c =
       t.2,
     )
 
-pub returns : goal.returns
-returns c =
+pub returns-clause-total : goal.returns-clause-total
+returns-clause-total c =
     let w = c.args.weights.now in
     let all : take c.loop-weight.weight-index w ≡ w = take_all c.loop-weight.weight-index w c.loop-weight-test.false in
     let e : pos c.loop-weight.total ≡ total w = c.loop-weight.invariant.1 ∙ ap total all in

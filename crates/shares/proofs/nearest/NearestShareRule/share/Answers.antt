@@ -1,9 +1,8 @@
-use Rattle.std.proofs.Common.{◌≡◌, ◌*◌, length, ap, ◌∙◌, arith, w64, SFits, rules}
+use Rattle.std.proofs.Common.{◌≡◌, ◌*◌, ◌≤◌, length, nat_abs, ap, ◌∙◌, arith, w64, SFits, rules}
 use Rattle.shares.specs.Nearest.{rounded, nearest_size, nearest}
 use Rattle.shares.specs.Sizes.{part}
 use Rattle.shares.specs.Weights.{at}
-use Rattle.shares.specs.Workings.{Within}
-use Rattle.shares.proofs.Filling.{Admitted, admitted, part_at, divides, within, filled_more, filled_all, answered_all}
+use Rattle.shares.proofs.Filling.{Admitted, admitted, part_at, filled_more, filled_all, answered_all}
 use Rattle.shares.specs.Quotients.{rounded_le}
 use Rattle.shares.specs.Totals.{part_le}
 use Rattle.shares.proofs.nearest.NearestShareRule.share.Goals as goal
@@ -12,25 +11,21 @@ use Rattle.shares.proofs.nearest.NearestShareRule.share.Goals.{In_ok-division, A
 known : (c : In_ok-division) → Admitted c.args.amount c.args.weights.now (length c.args.shares.now) c.in_ok-division.division
 known c = admitted _ _ _ _ c.ranges.amount c.in_ok-division.ensures
 
-part_within : (c : After-unsigned_abs) → Within c.in_ok-division.division c.unsigned_abs.result
+part_within : (c : After-unsigned_abs) → c.unsigned_abs.result ≤ c.in_ok-division.division.total
 part_within c =
     let w = c.args.weights.now in
-    let v = divides _ w _ _ (known (goal.at.nearest-size-requires c).In_ok-division) in
+    let v = (known (goal.at.nearest-size-requires c).In_ok-division).divides in
     let f : SFits w64 (at w c.loop-i.i) = search rules in
     let x = part_at w c.loop-i.i _ f c.unsigned_abs.ensures.value in
-    within _ w _ v (omega (arith, part_le w c.loop-i.i v.none_below_zero c.loop-i-test.true))
+    omega (arith, v.by_total, part_le w c.loop-i.i v.none_below_zero c.loop-i-test.true)
 
 pub nearest-size-requires : goal.nearest-size-requires
 nearest-size-requires c = part_within c
 
 pub signed-requires : goal.signed-requires
 signed-requires c =
-    let v = divides _ _ _ _ (known (goal.at.signed-requires c).In_ok-division) in
-    let h = part_within (goal.at.signed-requires c).After-unsigned_abs in
-    omega (arith, c.nearest-size.ensures, rounded_le c.in_ok-division.division.size c.unsigned_abs.result c.in_ok-division.division.total h.part_within, v.size_within)
-
-pub bounds-shares-i : goal.bounds-shares-i
-bounds-shares-i c = omega (arith, (known (goal.at.bounds-shares-i c).In_ok-division).room)
+    let d = c.in_ok-division.division in
+    omega (arith, c.nearest-size.ensures, rounded_le (nat_abs d.amount) c.unsigned_abs.result d.total (part_within (goal.at.signed-requires c).After-unsigned_abs), d.amount_within)
 
 pub loop-i-preserved : goal.loop-i-preserved
 loop-i-preserved c =
@@ -41,9 +36,9 @@ loop-i-preserved c =
     let f : SFits w64 (at w i) = search rules in
     let g : SFits w64 c.signed.result = search rules in
     let x : c.unsigned_abs.result ≡ part w i = part_at w i _ f c.unsigned_abs.ensures.value in
-    let n : c.nearest-size.result ≡ nearest_size d.size w i =
-    c.nearest-size.ensures ∙ ap (λ y. rounded (d.size * y) d.total) x ∙ ap (λ b. rounded (d.size * part w i) b.total) m.same in
-    filled_more nearest_size d w c.args.shares.now c.loop-i.shares i _ _ c.loop-i-test.true m.room c.loop-i.invariant g c.signed.ensures n
+    let n : c.nearest-size.result ≡ nearest_size (nat_abs d.amount) w i =
+    c.nearest-size.ensures ∙ ap (λ y. rounded (nat_abs d.amount * y) d.total) x ∙ ap (rounded (nat_abs d.amount * part w i)) m.divides.by_total in
+    filled_more nearest_size d.amount w c.args.shares.now c.loop-i.shares i _ _ c.loop-i-test.true m.room c.loop-i.invariant g c.signed.ensures n
 
 pub returns : goal.returns
 unfolding nearest

@@ -6,5 +6,5 @@ use Rattle.shares.proofs.running_carry.RunningCarryShareRule.share.Given as goal
 
 abbrev pub invariant-loop-i : goal.invariant-loop-i
 invariant-loop-i l =
-    (l.shares ≡ filled_to carry_size l.division l.weights l.initial.shares l.i)
+    (l.shares ≡ filled_to carry_size l.division.amount l.weights l.initial.shares l.i)
     × (l.carry ≡ carried_to l.division l.weights l.i)
