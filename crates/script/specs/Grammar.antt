@@ -8,12 +8,12 @@ use Rattle.script.specs.Verbs.{verb}
 use Rattle.script.specs.declared.command.Call.{Call as Calls}
 use Rattle.script.specs.declared.command.Call.TheVariants as call
 use Rattle.script.specs.declared.command.Command.{Command}
-use Rattle.script.specs.declared.command.Command.TheVariants.{Open, Call, Ask, Share}
-use Rattle.script.specs.declared.command.Key.{Key}
+use Rattle.script.specs.declared.command.Command.TheVariants.{Open, Call, Ask, Balance, Share}
+use Rattle.faults.specs.declared.key.Key.{Key}
 use Rattle.script.specs.declared.command.Opening.{Opening}
 use Rattle.script.specs.declared.command.Places.{Places}
-use Rattle.script.specs.declared.command.Question.{Question}
-use Rattle.script.specs.declared.command.Question.TheVariants as question
+use Rattle.levels.specs.declared.question.Question.{Question}
+use Rattle.levels.specs.declared.question.Question.TheVariants as question
 use Rattle.script.specs.declared.command.Sharing.{Sharing}
 use Rattle.script.specs.declared.verb.Verb.{Verb}
 use Rattle.script.specs.declared.verb.Verb.TheVariants as verbs
@@ -110,8 +110,8 @@ settlement t = given (participant_and_page t) (λ e. Some (question.Settlement e
 abbrev pub month : List ℕ → Option Question
 month t = given (last_unsigned t) (λ p. Some (question.Month p))
 
-abbrev pub balance : List ℕ → Option Question
-balance t = given (nothing t) (λ _. Some question.Balance)
+abbrev pub balance : List ℕ → Option Command
+balance t = given (nothing t) (λ _. Some Balance)
 
 -- RULE AMOUNT WEIGHT...
 abbrev pub share : List ℕ → Option Sharing
@@ -136,7 +136,7 @@ arguments_of verbs.Group t = option_map Ask (group t)
 arguments_of verbs.Parent t = option_map Ask (parent t)
 arguments_of verbs.Settlement t = option_map Ask (settlement t)
 arguments_of verbs.Month t = option_map Ask (month t)
-arguments_of verbs.Balance t = option_map Ask (balance t)
+arguments_of verbs.Balance t = balance t
 arguments_of verbs.Share t = option_map Share (share t)
 
 -- the command of a line that has a word

@@ -5,9 +5,9 @@ use Rattle.text.specs.Taking.{to_come}
 use Rattle.text.specs.Words.{next_word, after_word}
 use Rattle.script.specs.declared.arguments.Arguments.{Arguments}
 use Rattle.script.specs.Verbs.{rule_named, path_named}
-use Rattle.script.specs.declared.command.Key.{Key}
-use Rattle.script.specs.declared.command.Path.{Path}
-use Rattle.script.specs.declared.command.RuleName.{RuleName}
+use Rattle.faults.specs.declared.key.Key.{Key}
+use Rattle.ledger.specs.declared.path.Path.{Path}
+use Rattle.shares.specs.declared.named_rule.NamedRule.{NamedRule}
 
 -- the text whose words are still to come
 abbrev pub ahead : Arguments → List ℕ
@@ -43,7 +43,7 @@ unsigned_or default t = cond (is_some (next_word t)) (unsigned t) (Some default)
 abbrev pub signed : List ℕ → Option ℤ
 signed t = given (next_word t) signed_number
 
-abbrev pub rule : List ℕ → Option RuleName
+abbrev pub rule : List ℕ → Option NamedRule
 rule t = given (next_word t) rule_named
 
 abbrev pub path : List ℕ → Option Path

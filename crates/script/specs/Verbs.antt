@@ -1,10 +1,10 @@
 -- The names that a script can use: of commands, of share rules and of paths.
 use Rattle.std.specs.Prelude.{ℕ, cond, List, Some, None, codes, Option}
 use Rattle.std.specs.Str.{bytes_eq}
-use Rattle.script.specs.declared.command.Path.{Path}
-use Rattle.script.specs.declared.command.Path.TheVariants.{System, Adjustment}
-use Rattle.script.specs.declared.command.RuleName.{RuleName}
-use Rattle.script.specs.declared.command.RuleName.TheVariants.{Nearest, LargestRemainder, RunningCarry}
+use Rattle.ledger.specs.declared.path.Path.{Path}
+use Rattle.ledger.specs.declared.path.Path.TheVariants.{System, Adjustment}
+use Rattle.shares.specs.declared.named_rule.NamedRule.{NamedRule}
+use Rattle.shares.specs.declared.named_rule.NamedRule.TheVariants.{Nearest, LargestRemainder, RunningCarry}
 use Rattle.script.specs.declared.verb.Verb.{Verb}
 use Rattle.script.specs.declared.verb.Verb.TheVariants.{Open, Post, Meter, Adjust, Allocate, Strike, Allot, Withdraw, Share}
 use Rattle.script.specs.declared.verb.Verb.TheVariants.{Subtotal, Interval, Code, Group, Parent, Settlement, Month, Balance}
@@ -42,7 +42,7 @@ verb w =
     cond (bytes_eq w (codes "open")) (Some Open)
     (cond (bytes_eq w (codes "share")) (Some Share) (or_else (month_verb w) (question_verb w)))
 
-abbrev pub rule_named : List ℕ → Option RuleName
+abbrev pub rule_named : List ℕ → Option NamedRule
 rule_named w =
     cond (bytes_eq w (codes "nearest")) (Some Nearest)
     (cond (bytes_eq w (codes "largest-remainder")) (Some LargestRemainder)

@@ -1,24 +1,27 @@
 // The words of a line after its command, taken one by one as what the command wants there.
-// A reading that fails answers None, and `wrong` then tells what was found and expected.
-ghost use Rattle.std.specs.Prelude.{◌≡◌, not, is_some, OnSome};
+// A reading that fails says what was found and expected.
+ghost use Rattle.std.specs.Prelude.{◌≡◌, not, is_some, OnOk};
 ghost use Rattle.std.specs.Option.{option_map};
+ghost use Rattle.std.specs.Result.{result_ok};
 ghost use Rattle.script.specs.Readings.{ahead, unsigned, unsigned_or, signed, key, rule, path, nothing, all_signed, after_four};
 ghost use Rattle.script.specs.Verbs.{rule_named, path_named};
 ghost use Rattle.text.specs.Words.{next_word, after_word};
 
-use crate::command::{Key, Path, RuleName};
 use crate::wrong::{Argument, Expected, Found, Wrong};
+use faults::Key;
+use ledger::Path;
+use shares::NamedRule;
 use text::{Words, is_spelt, read_signed, read_unsigned};
 
-fn rule_named(word: &[u8]) -> Option<RuleName>
+fn rule_named(word: &[u8]) -> Option<NamedRule>
     ensures { result ≡ rule_named word.now }
 {
     if is_spelt(word, "nearest") {
-        Some(RuleName::Nearest)
+        Some(NamedRule::Nearest)
     } else if is_spelt(word, "largest-remainder") {
-        Some(RuleName::LargestRemainder)
+        Some(NamedRule::LargestRemainder)
     } else if is_spelt(word, "running-carry") {
-        Some(RuleName::RunningCarry)
+        Some(NamedRule::RunningCarry)
     } else {
         None
     }
@@ -36,88 +39,92 @@ fn path_named(word: &[u8]) -> Option<Path>
     }
 }
 
+// What a word was read as, or that it is not what was expected.
+fn expect<T: Drop>(read: Option<T>, word: &[u8], expected: Expected) -> Result<T, Wrong<'_>>
+    ensures { result_ok result ≡ read }
+{
+    read.ok_or(Wrong {
+        found: Found::Word(word),
+        expected,
+    })
+}
+
 #[derive(Drop)]
 pub struct Arguments<'a> {
     words: Words<'a>,
-    wrong: Wrong<'a>,
 }
 
 impl<'a> Arguments<'a> {
     pub fn of(words: Words<'a>) -> Arguments<'a>
         ensures { result.words ≡ words.entry }
     {
-        let wrong = Wrong {
+        Arguments { words }
+    }
+
+    pub fn word(&mut self, expected: Expected) -> Result<&'a [u8], Wrong<'a>>
+        ensures word { option_map (λ x. x.now) (result_ok result) ≡ next_word (ahead self.old) }
+        ensures rest { ahead self.new ≡ after_word (ahead self.old) }
+    {
+        self.words.next_word().ok_or(Wrong {
             found: Found::EndOfLine,
-            expected: Expected::Command,
-        };
-        Arguments { words, wrong }
+            expected,
+        })
     }
 
-    pub fn wrong(self) -> Wrong<'a> {
-        self.wrong
-    }
-
-    pub fn word(&mut self, expected: Expected) -> Option<&'a [u8]>
-        ensures word { option_map (λ x. x.now) result ≡ next_word (ahead self.old) }
+    pub fn unsigned(&mut self, argument: Argument) -> Result<u32, Wrong<'a>>
+        ensures value { result_ok result ≡ unsigned (ahead self.old) }
         ensures rest { ahead self.new ≡ after_word (ahead self.old) }
     {
-        let word = self.words.next_word();
-        let found = match word {
-            Some(word) => Found::Word(word),
-            None => Found::EndOfLine,
-        };
-        self.wrong = Wrong { found, expected };
-        word
-    }
-
-    pub fn unsigned(&mut self, argument: Argument) -> Option<u32>
-        ensures value { result ≡ unsigned (ahead self.old) }
-        ensures rest { ahead self.new ≡ after_word (ahead self.old) }
-    {
-        read_unsigned(self.word(Expected::Unsigned(argument))?)
+        let expected = Expected::Unsigned(argument);
+        let word = self.word(expected)?;
+        expect(read_unsigned(word), word, expected)
     }
 
     // The same of a last argument that may be left out.
-    pub fn unsigned_or(&mut self, argument: Argument, default: u32) -> Option<u32>
-        ensures value { result ≡ unsigned_or default (ahead self.old) }
+    pub fn unsigned_or(&mut self, argument: Argument, default: u32) -> Result<u32, Wrong<'a>>
+        ensures value { result_ok result ≡ unsigned_or default (ahead self.old) }
         ensures rest { ahead self.new ≡ after_word (ahead self.old) }
     {
-        match self.word(Expected::Unsigned(argument)) {
-            Some(word) => read_unsigned(word),
-            None => Some(default),
+        match self.words.next_word() {
+            Some(word) => expect(read_unsigned(word), word, Expected::Unsigned(argument)),
+            None => Ok(default),
         }
     }
 
-    pub fn signed(&mut self, argument: Argument) -> Option<i64>
-        ensures value { result ≡ signed (ahead self.old) }
+    pub fn signed(&mut self, argument: Argument) -> Result<i64, Wrong<'a>>
+        ensures value { result_ok result ≡ signed (ahead self.old) }
         ensures rest { ahead self.new ≡ after_word (ahead self.old) }
     {
-        read_signed(self.word(Expected::Signed(argument))?)
+        let expected = Expected::Signed(argument);
+        let word = self.word(expected)?;
+        expect(read_signed(word), word, expected)
     }
 
-    pub fn rule(&mut self) -> Option<RuleName>
-        ensures value { result ≡ rule (ahead self.old) }
+    pub fn rule(&mut self) -> Result<NamedRule, Wrong<'a>>
+        ensures value { result_ok result ≡ rule (ahead self.old) }
         ensures rest { ahead self.new ≡ after_word (ahead self.old) }
     {
-        rule_named(self.word(Expected::Rule)?)
+        let word = self.word(Expected::Rule)?;
+        expect(rule_named(word), word, Expected::Rule)
     }
 
-    pub fn path(&mut self) -> Option<Path>
-        ensures value { result ≡ path (ahead self.old) }
+    pub fn path(&mut self) -> Result<Path, Wrong<'a>>
+        ensures value { result_ok result ≡ path (ahead self.old) }
         ensures rest { ahead self.new ≡ after_word (ahead self.old) }
     {
-        path_named(self.word(Expected::Path)?)
+        let word = self.word(Expected::Path)?;
+        expect(path_named(word), word, Expected::Path)
     }
 
-    pub fn key(&mut self) -> Option<Key>
-        ensures value { result ≡ key (ahead self.old) }
-        ensures rest { OnSome result (ahead self.new ≡ after_four (ahead self.old)) }
+    pub fn key(&mut self) -> Result<Key, Wrong<'a>>
+        ensures value { result_ok result ≡ key (ahead self.old) }
+        ensures rest { OnOk result (ahead self.new ≡ after_four (ahead self.old)) }
     {
         let code = self.unsigned(Argument::Code)?;
         let participant = self.unsigned(Argument::Participant)?;
         let page = self.unsigned(Argument::Page)?;
         let interval = self.unsigned(Argument::Interval)?;
-        Some(Key {
+        Ok(Key {
             code,
             participant,
             page,
@@ -133,22 +140,26 @@ impl<'a> Arguments<'a> {
     }
 
     // The line ends here.
-    pub fn end(&mut self) -> Option<()>
-        ensures { result ≡ nothing (ahead self.old) }
+    pub fn end(&mut self) -> Result<(), Wrong<'a>>
+        ensures { result_ok result ≡ nothing (ahead self.old) }
     {
-        match self.word(Expected::EndOfLine) {
-            Some(_) => None,
-            None => Some(()),
+        match self.words.next_word() {
+            Some(word) => Err(Wrong {
+                found: Found::Word(word),
+                expected: Expected::EndOfLine,
+            }),
+            None => Ok(()),
         }
     }
 
     // Every word that is still to come.
-    pub fn all_signed(&mut self, argument: Argument) -> Option<()>
-        ensures { result ≡ all_signed (ahead self.old) }
+    pub fn all_signed(&mut self, argument: Argument) -> Result<(), Wrong<'a>>
+        ensures { result_ok result ≡ all_signed (ahead self.old) }
     {
-        while let Some(word) = self.word(Expected::Signed(argument)) {
-            let _ = read_signed(word)?;
+        let expected = Expected::Signed(argument);
+        while let Some(word) = self.words.next_word() {
+            let _ = expect(read_signed(word), word, expected)?;
         }
-        Some(())
+        Ok(())
     }
 }

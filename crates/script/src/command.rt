@@ -1,28 +1,9 @@
 // What a line of a script asks for. Every number is taken as it was written: whether the rules
 // turn it down is not decided here.
 
-#[derive(Clone, Copy)]
-pub enum RuleName {
-    Nearest,
-    LargestRemainder,
-    RunningCarry,
-}
-
-// Amounts as posted by the system, or as pass-through adjustments.
-#[derive(Clone, Copy)]
-pub enum Path {
-    System,
-    Adjustment,
-}
-
-// Where an amount stands.
-#[derive(Clone, Copy)]
-pub struct Key {
-    pub code: u32,
-    pub participant: u32,
-    pub page: u32,
-    pub interval: u32,
-}
+use faults::Key;
+use levels::Question;
+use shares::NamedRule;
 
 // The places of a month's two journals.
 #[derive(Clone, Copy)]
@@ -37,7 +18,7 @@ pub struct Opening {
     pub year: u32,
     pub month: u32,
     pub participants: u32,
-    pub rule: RuleName,
+    pub rule: NamedRule,
     pub places: Places,
 }
 
@@ -76,45 +57,10 @@ pub enum Call {
     },
 }
 
-// A question, which changes nothing.
-#[derive(Clone, Copy)]
-pub enum Question {
-    Subtotal {
-        path: Path,
-        key: Key,
-    },
-    Interval {
-        key: Key,
-    },
-    Code {
-        code: u32,
-        participant: u32,
-        page: u32,
-    },
-    Group {
-        group: u32,
-        participant: u32,
-        page: u32,
-    },
-    Parent {
-        parent: u32,
-        participant: u32,
-        page: u32,
-    },
-    Settlement {
-        participant: u32,
-        page: u32,
-    },
-    Month {
-        participant: u32,
-    },
-    Balance,
-}
-
 // A rule put to work on an amount by weights, which are the words of the line from the fourth on.
 #[derive(Clone, Copy)]
 pub struct Sharing {
-    pub rule: RuleName,
+    pub rule: NamedRule,
     pub amount: i64,
 }
 
@@ -122,6 +68,9 @@ pub struct Sharing {
 pub enum Command {
     Open(Opening),
     Call(Call),
+    // A question of a level, which changes nothing.
     Ask(Question),
+    // The trial balance.
+    Balance,
     Share(Sharing),
 }

@@ -9,9 +9,11 @@ ghost use Rattle.script.specs.Readings.{ahead, after_three};
 ghost use Rattle.text.specs.Taking.{to_come};
 
 use crate::arguments::Arguments;
-use crate::command::{Call, Command, Key, Opening, Places, Question, Sharing};
+use crate::command::{Call, Command, Opening, Places, Sharing};
 use crate::verb::Verb;
 use crate::wrong::{Argument, Expected, Found, Wrong};
+use faults::Key;
+use levels::Question;
 use text::Words;
 
 // The places of a journal and of a shares buffer where a line does not give them.
@@ -20,11 +22,11 @@ const JOURNAL_PLACES: u32 = 1_000_000;
 const SHARES_PLACES: u32 = 32;
 
 impl<'a> Arguments<'a> {
-    fn places(&mut self) -> Option<Places>
-        ensures { result ≡ places (ahead self.old) }
+    fn places(&mut self) -> Result<Places, Wrong<'a>>
+        ensures { result_ok result ≡ places (ahead self.old) }
     {
         if self.is_at_end() {
-            return Some(Places {
+            return Ok(Places {
                 money: JOURNAL_PLACES,
                 demand: JOURNAL_PLACES,
             });
@@ -32,18 +34,18 @@ impl<'a> Arguments<'a> {
         let money = self.unsigned(Argument::MoneyLines)?;
         let demand = self.unsigned(Argument::DemandLines)?;
         self.end()?;
-        Some(Places { money, demand })
+        Ok(Places { money, demand })
     }
 
-    fn opening(&mut self) -> Option<Opening>
-        ensures { result ≡ opening (ahead self.old) }
+    fn opening(&mut self) -> Result<Opening, Wrong<'a>>
+        ensures { result_ok result ≡ opening (ahead self.old) }
     {
         let year = self.unsigned(Argument::Year)?;
         let month = self.unsigned(Argument::Month)?;
         let participants = self.unsigned(Argument::Participants)?;
         let rule = self.rule()?;
         let places = self.places()?;
-        Some(Opening {
+        Ok(Opening {
             year,
             month,
             participants,
@@ -53,39 +55,39 @@ impl<'a> Arguments<'a> {
     }
 
     // The last argument of a line.
-    fn last_unsigned(&mut self, argument: Argument) -> Option<u32>
-        ensures { result ≡ last_unsigned (ahead self.old) }
+    fn last_unsigned(&mut self, argument: Argument) -> Result<u32, Wrong<'a>>
+        ensures { result_ok result ≡ last_unsigned (ahead self.old) }
     {
         let number = self.unsigned(argument)?;
         self.end()?;
-        Some(number)
+        Ok(number)
     }
 
-    fn entry(&mut self) -> Option<(Key, i64)>
-        ensures { result ≡ entry (ahead self.old) }
+    fn entry(&mut self) -> Result<(Key, i64), Wrong<'a>>
+        ensures { result_ok result ≡ entry (ahead self.old) }
     {
         let key = self.key()?;
         let cents = self.signed(Argument::Cents)?;
         self.end()?;
-        Some((key, cents))
+        Ok((key, cents))
     }
 
-    fn post(&mut self) -> Option<Call>
-        ensures { result ≡ post (ahead self.old) }
+    fn post(&mut self) -> Result<Call, Wrong<'a>>
+        ensures { result_ok result ≡ post (ahead self.old) }
     {
         let (key, cents) = self.entry()?;
-        Some(Call::Post { key, cents })
+        Ok(Call::Post { key, cents })
     }
 
-    fn meter(&mut self) -> Option<Call>
-        ensures { result ≡ meter (ahead self.old) }
+    fn meter(&mut self) -> Result<Call, Wrong<'a>>
+        ensures { result_ok result ≡ meter (ahead self.old) }
     {
         let participant = self.unsigned(Argument::Participant)?;
         let page = self.unsigned(Argument::Page)?;
         let interval = self.unsigned(Argument::Interval)?;
         let kwh = self.signed(Argument::Kwh)?;
         self.end()?;
-        Some(Call::Meter {
+        Ok(Call::Meter {
             participant,
             page,
             interval,
@@ -93,22 +95,22 @@ impl<'a> Arguments<'a> {
         })
     }
 
-    fn adjust(&mut self) -> Option<Call>
-        ensures { result ≡ adjust (ahead self.old) }
+    fn adjust(&mut self) -> Result<Call, Wrong<'a>>
+        ensures { result_ok result ≡ adjust (ahead self.old) }
     {
         let (key, cents) = self.entry()?;
-        Some(Call::Adjust { key, cents })
+        Ok(Call::Adjust { key, cents })
     }
 
-    fn allocate(&mut self) -> Option<Call>
-        ensures { result ≡ allocate (ahead self.old) }
+    fn allocate(&mut self) -> Result<Call, Wrong<'a>>
+        ensures { result_ok result ≡ allocate (ahead self.old) }
     {
         let code = self.unsigned(Argument::Code)?;
         let page = self.unsigned(Argument::Page)?;
         let interval = self.unsigned(Argument::Interval)?;
         let places = self.unsigned_or(Argument::Places, SHARES_PLACES)?;
         self.end()?;
-        Some(Call::Allocate {
+        Ok(Call::Allocate {
             code,
             page,
             interval,
@@ -116,131 +118,131 @@ impl<'a> Arguments<'a> {
         })
     }
 
-    fn strike(&mut self) -> Option<Call>
-        ensures { result ≡ strike (ahead self.old) }
+    fn strike(&mut self) -> Result<Call, Wrong<'a>>
+        ensures { result_ok result ≡ strike (ahead self.old) }
     {
         let page = self.last_unsigned(Argument::Page)?;
-        Some(Call::Strike { page })
+        Ok(Call::Strike { page })
     }
 
-    fn allot(&mut self) -> Option<Call>
-        ensures { result ≡ allot (ahead self.old) }
+    fn allot(&mut self) -> Result<Call, Wrong<'a>>
+        ensures { result_ok result ≡ allot (ahead self.old) }
     {
         let page = self.unsigned(Argument::Page)?;
         let places = self.unsigned_or(Argument::Places, SHARES_PLACES)?;
         self.end()?;
-        Some(Call::Allot { page, places })
+        Ok(Call::Allot { page, places })
     }
 
-    fn withdraw(&mut self) -> Option<Call>
-        ensures { result ≡ withdraw (ahead self.old) }
+    fn withdraw(&mut self) -> Result<Call, Wrong<'a>>
+        ensures { result_ok result ≡ withdraw (ahead self.old) }
     {
         let page = self.last_unsigned(Argument::Page)?;
-        Some(Call::Withdraw { page })
+        Ok(Call::Withdraw { page })
     }
 
-    fn subtotal(&mut self) -> Option<Question>
-        ensures { result ≡ subtotal (ahead self.old) }
+    fn subtotal(&mut self) -> Result<Question, Wrong<'a>>
+        ensures { result_ok result ≡ subtotal (ahead self.old) }
     {
         let path = self.path()?;
         let key = self.key()?;
         self.end()?;
-        Some(Question::Subtotal { path, key })
+        Ok(Question::Subtotal { path, key })
     }
 
-    fn interval(&mut self) -> Option<Question>
-        ensures { result ≡ interval (ahead self.old) }
+    fn interval(&mut self) -> Result<Question, Wrong<'a>>
+        ensures { result_ok result ≡ interval (ahead self.old) }
     {
         let key = self.key()?;
         self.end()?;
-        Some(Question::Interval { key })
+        Ok(Question::Interval { key })
     }
 
-    fn participant_and_page(&mut self) -> Option<(u32, u32)>
-        ensures { result ≡ participant_and_page (ahead self.old) }
+    fn participant_and_page(&mut self) -> Result<(u32, u32), Wrong<'a>>
+        ensures { result_ok result ≡ participant_and_page (ahead self.old) }
     {
         let participant = self.unsigned(Argument::Participant)?;
         let page = self.last_unsigned(Argument::Page)?;
-        Some((participant, page))
+        Ok((participant, page))
     }
 
     // What is asked about, then a participant and a page.
-    fn on_page(&mut self, argument: Argument) -> Option<(u32, (u32, u32))>
-        ensures { result ≡ on_page (ahead self.old) }
+    fn on_page(&mut self, argument: Argument) -> Result<(u32, (u32, u32)), Wrong<'a>>
+        ensures { result_ok result ≡ on_page (ahead self.old) }
     {
         let number = self.unsigned(argument)?;
         let place = self.participant_and_page()?;
-        Some((number, place))
+        Ok((number, place))
     }
 
-    fn code(&mut self) -> Option<Question>
-        ensures { result ≡ code (ahead self.old) }
+    fn code(&mut self) -> Result<Question, Wrong<'a>>
+        ensures { result_ok result ≡ code (ahead self.old) }
     {
         let (code, (participant, page)) = self.on_page(Argument::Code)?;
-        Some(Question::Code {
+        Ok(Question::Code {
             code,
             participant,
             page,
         })
     }
 
-    fn group(&mut self) -> Option<Question>
-        ensures { result ≡ group (ahead self.old) }
+    fn group(&mut self) -> Result<Question, Wrong<'a>>
+        ensures { result_ok result ≡ group (ahead self.old) }
     {
         let (group, (participant, page)) = self.on_page(Argument::Group)?;
-        Some(Question::Group {
+        Ok(Question::Group {
             group,
             participant,
             page,
         })
     }
 
-    fn parent(&mut self) -> Option<Question>
-        ensures { result ≡ parent (ahead self.old) }
+    fn parent(&mut self) -> Result<Question, Wrong<'a>>
+        ensures { result_ok result ≡ parent (ahead self.old) }
     {
         let (parent, (participant, page)) = self.on_page(Argument::Parent)?;
-        Some(Question::Parent {
+        Ok(Question::Parent {
             parent,
             participant,
             page,
         })
     }
 
-    fn settlement(&mut self) -> Option<Question>
-        ensures { result ≡ settlement (ahead self.old) }
+    fn settlement(&mut self) -> Result<Question, Wrong<'a>>
+        ensures { result_ok result ≡ settlement (ahead self.old) }
     {
         let (participant, page) = self.participant_and_page()?;
-        Some(Question::Settlement { participant, page })
+        Ok(Question::Settlement { participant, page })
     }
 
-    fn month(&mut self) -> Option<Question>
-        ensures { result ≡ month (ahead self.old) }
+    fn month(&mut self) -> Result<Question, Wrong<'a>>
+        ensures { result_ok result ≡ month (ahead self.old) }
     {
         let participant = self.last_unsigned(Argument::Participant)?;
-        Some(Question::Month { participant })
+        Ok(Question::Month { participant })
     }
 
-    fn balance(&mut self) -> Option<Question>
-        ensures { result ≡ balance (ahead self.old) }
+    fn balance(&mut self) -> Result<Command, Wrong<'a>>
+        ensures { result_ok result ≡ balance (ahead self.old) }
     {
         self.end()?;
-        Some(Question::Balance)
+        Ok(Command::Balance)
     }
 
-    fn share(&mut self) -> Option<Sharing>
-        ensures { result ≡ share (ahead self.old) }
+    fn share(&mut self) -> Result<Sharing, Wrong<'a>>
+        ensures { result_ok result ≡ share (ahead self.old) }
     {
         let rule = self.rule()?;
         let amount = self.signed(Argument::Amount)?;
         let _ = self.signed(Argument::Weight)?;
         self.all_signed(Argument::Weight)?;
-        Some(Sharing { rule, amount })
+        Ok(Sharing { rule, amount })
     }
 
-    fn command(&mut self, verb: Verb) -> Option<Command>
-        ensures { result ≡ arguments_of verb (ahead self.old) }
+    fn command(&mut self, verb: Verb) -> Result<Command, Wrong<'a>>
+        ensures { result_ok result ≡ arguments_of verb (ahead self.old) }
     {
-        Some(match verb {
+        Ok(match verb {
             Verb::Open => Command::Open(self.opening()?),
             Verb::Post => Command::Call(self.post()?),
             Verb::Meter => Command::Call(self.meter()?),
@@ -256,7 +258,7 @@ impl<'a> Arguments<'a> {
             Verb::Parent => Command::Ask(self.parent()?),
             Verb::Settlement => Command::Ask(self.settlement()?),
             Verb::Month => Command::Ask(self.month()?),
-            Verb::Balance => Command::Ask(self.balance()?),
+            Verb::Balance => self.balance()?,
             Verb::Share => Command::Share(self.share()?),
         })
     }
@@ -270,17 +272,12 @@ pub fn parse(line: &[u8]) -> Result<Option<Command>, Wrong<'_>>
     let Some(name) = words.next_word() else {
         return Ok(None);
     };
-    let Some(verb) = Verb::named(name) else {
-        return Err(Wrong {
-            found: Found::Word(name),
-            expected: Expected::Command,
-        });
-    };
-    let mut arguments = Arguments::of(words);
-    match arguments.command(verb) {
-        Some(command) => Ok(Some(command)),
-        None => Err(arguments.wrong()),
-    }
+    let verb = Verb::named(name).ok_or(Wrong {
+        found: Found::Word(name),
+        expected: Expected::Command,
+    })?;
+    let command = Arguments::of(words).command(verb)?;
+    Ok(Some(command))
 }
 
 // The weights of a line that gives a `share`: its words from the fourth on.

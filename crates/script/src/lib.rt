@@ -8,6 +8,6 @@ mod grammar;
 mod verb;
 mod wrong;
 
-pub use command::{Call, Command, Key, Opening, Path, Places, Question, RuleName, Sharing};
+pub use command::{Call, Command, Opening, Places, Sharing};
 pub use grammar::{parse, share_weights};
 pub use wrong::Wrong;
