@@ -1,61 +1,33 @@
-// How an answer is written on the sheet, and counted.
-use crate::sheet::Sheet;
-use shares::Refusal;
-use std::alloc::AllocError;
-use std::io::Write;
+// What a command is answered with, as the key shows it.
+use faults::Refusal;
+use std::fmt;
 
-// What a refusal's number means.
-fn meaning(number: u8) -> &'static [u8] {
-    match number {
-        1 => b"year, month or number of participants outside, or a book with lines",
-        2 => b"code, group or parent not in the table",
-        3 => b"code not for this call",
-        4 => b"participant outside",
-        5 => b"page or interval outside, or not of this code",
-        6 => b"amount or reading beyond its limit",
-        7 => b"demand or weights outside their limits",
-        8 => b"page or interval not open for this call",
-        9 => b"a day is not allotted",
-        10 => b"amount to share beyond its limit",
-        11 => b"no weight for an amount other than 0",
-        12 => b"too few free lines",
-        13 => b"fewer places than shares",
-        _ => b"unknown",
+#[derive(Clone, Copy)]
+pub enum Answer<'a> {
+    Shares(&'a [i64]),
+    Refused(Refusal),
+    // Every command but `share` needs a month.
+    NoMonth,
+}
+
+impl Answer<'_> {
+    pub fn is_granted(&self) -> bool {
+        matches!(self, Answer::Shares(_))
     }
 }
 
-pub fn show_shares<W: Write + Drop>(
-    shares: &[i64],
-    sheet: &mut Sheet<W>,
-) -> Result<(), AllocError> {
-    sheet.count_granted();
-    sheet.word(b"shares")?;
-    for share in shares {
-        sheet.number(*share)?;
+impl fmt::Display for Answer<'_> {
+    fn fmt<W: fmt::Write>(&self, f: &mut fmt::Formatter<W>) -> fmt::Result {
+        match self {
+            Answer::Shares(shares) => {
+                f.write_str("shares")?;
+                for share in shares.iter() {
+                    write!(f, " {share}")?;
+                }
+                Ok(())
+            }
+            Answer::Refused(refusal) => write!(f, "refused {refusal}"),
+            Answer::NoMonth => f.write_str("no month is open"),
+        }
     }
-    Ok(())
-}
-
-pub fn show_refusal<W: Write + Drop>(
-    refusal: Refusal,
-    sheet: &mut Sheet<W>,
-) -> Result<(), AllocError> {
-    sheet.count_refused();
-    sheet.word(b"refused")?;
-    sheet.number(i64::from(refusal.number))?;
-    sheet.word(b" layer")?;
-    sheet.number(i64::from(refusal.layer))?;
-    sheet.word(b" at")?;
-    sheet.number(i64::from(refusal.code))?;
-    sheet.number(i64::from(refusal.participant))?;
-    sheet.number(i64::from(refusal.page))?;
-    sheet.number(i64::from(refusal.interval))?;
-    sheet.word(b": ")?;
-    sheet.word(meaning(refusal.number))
-}
-
-// Every command but `share` needs a month.
-pub fn show_no_month<W: Write + Drop>(sheet: &mut Sheet<W>) -> Result<(), AllocError> {
-    sheet.count_refused();
-    sheet.word(b"no month is open")
 }
