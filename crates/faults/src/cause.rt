@@ -21,12 +21,12 @@ pub enum Cause {
     TooFewPlaces = 13,
 }
 
-impl Cause {
-    // The number by which the rules and an answer name it.
-    pub fn number(self) -> u8
-        ensures { result ≡ cause_number self }
-    {
-        self as u8
+// The number by which the rules and an answer name it.
+impl From<Cause> for u8 {
+    ghost from_gives = { λ cause n. n ≡ cause_number cause };
+
+    fn from(cause: Cause) -> u8 {
+        cause as u8
     }
 }
 

@@ -13,8 +13,8 @@ pub struct Refusal {
 
 impl fmt::Display for Refusal {
     fn fmt<W: fmt::Write>(&self, f: &mut fmt::Formatter<W>) -> fmt::Result {
-        let number = self.cause.number();
-        let layer = self.layer.number();
+        let number = u8::from(self.cause);
+        let layer = u8::from(self.layer);
         write!(
             f,
             "{number} layer {layer} at {}: {}",

@@ -7,6 +7,7 @@ use std::alloc::{AllocError, Global};
 use text::{Line, read_signed};
 
 // The buffers are kept from command to command, and grow with the longest list of weights.
+// A rule reads one slice and writes another, so weights and shares stand in two lists.
 #[derive(Drop)]
 pub struct Desk {
     weights: Vec<i64>,

@@ -94,5 +94,5 @@ fn weights_as_large_as_can_be_are_refused(rt: HostRuntime) {
         RunningCarry.share(1, &weights, &mut shares),
         Err(RuleFault::Weights)
     );
-    assert_eq!(rt; RuleFault::Weights.refusal().cause.number(), 7);
+    assert_eq!(rt; u8::from(RuleFault::Weights.refusal().cause), 7);
 }
