@@ -2,3 +2,4 @@
 pub mod Causes
 pub mod Keys
 pub mod Faults
+pub mod Texts

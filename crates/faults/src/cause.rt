@@ -1,6 +1,7 @@
 // The causes for which a call is turned down, in the order in which they are looked for.
-ghost use Rattle.std.specs.Prelude.{◌≡◌};
+ghost use Rattle.std.specs.Prelude.{◌≡◌, Some};
 ghost use Rattle.faults.specs.Causes.{cause_number};
+ghost use Rattle.faults.specs.Texts.{cause_text};
 
 use std::fmt;
 
@@ -31,6 +32,8 @@ impl From<Cause> for u8 {
 }
 
 impl fmt::Display for Cause {
+    ghost output = { λ x. Some (cause_text x) };
+
     fn fmt<W: fmt::Write>(&self, f: &mut fmt::Formatter<W>) -> fmt::Result {
         f.write_str(match *self {
             Cause::OpeningOutside => {

@@ -1,7 +1,8 @@
 // A key: where an amount stands. Demand lines carry code 0.
 // Each part is any number at all, so that every place can be asked about and every refusal can name its place.
-ghost use Rattle.std.specs.Prelude.{◌≡◌};
+ghost use Rattle.std.specs.Prelude.{◌≡◌, Some};
 ghost use Rattle.faults.specs.Keys.{known, same};
+ghost use Rattle.faults.specs.Texts.{key_text};
 
 use std::fmt;
 
@@ -31,12 +32,16 @@ impl Key {
 }
 
 impl fmt::Display for Key {
+    ghost output = { λ x. Some (key_text x) };
+
     fn fmt<W: fmt::Write>(&self, f: &mut fmt::Formatter<W>) -> fmt::Result {
-        write!(
-            f,
-            "{} {} {} {}",
-            self.code, self.participant, self.page, self.interval
-        )
+        let Key {
+            code,
+            participant,
+            page,
+            interval,
+        } = *self;
+        write!(f, "{code} {participant} {page} {interval}")
     }
 }
 

@@ -1,4 +1,7 @@
 // What a fault tells: its cause, the layer that found it, and the place that it is about.
+ghost use Rattle.std.specs.Prelude.{Some};
+ghost use Rattle.faults.specs.Texts.{refusal_text};
+
 use crate::cause::Cause;
 use crate::key::Key;
 use crate::layer::Layer;
@@ -12,6 +15,8 @@ pub struct Refusal {
 }
 
 impl fmt::Display for Refusal {
+    ghost output = { λ x. Some (refusal_text x) };
+
     fn fmt<W: fmt::Write>(&self, f: &mut fmt::Formatter<W>) -> fmt::Result {
         let number = u8::from(self.cause);
         let layer = u8::from(self.layer);
