@@ -65,7 +65,7 @@ impl<'a> Arguments<'a> {
         ensures word { option_map (λ x. x.now) (result_ok result) ≡ next_word (ahead self.old) }
         ensures rest { ahead self.new ≡ after_word (ahead self.old) }
     {
-        self.words.next_word().ok_or(Wrong {
+        self.words.next().ok_or(Wrong {
             found: Found::EndOfLine,
             expected,
         })
@@ -85,7 +85,7 @@ impl<'a> Arguments<'a> {
         ensures value { result_ok result ≡ unsigned_or default (ahead self.old) }
         ensures rest { ahead self.new ≡ after_word (ahead self.old) }
     {
-        match self.words.next_word() {
+        match self.words.next() {
             Some(word) => expect(read_unsigned(word), word, Expected::Unsigned(argument)),
             None => Ok(default),
         }
@@ -136,14 +136,14 @@ impl<'a> Arguments<'a> {
         ensures { result ≡ not (is_some (next_word (ahead self.now))) }
     {
         let mut words = self.words;
-        words.next_word().is_none()
+        words.next().is_none()
     }
 
     // The line ends here.
     pub fn end(&mut self) -> Result<(), Wrong<'a>>
         ensures { result_ok result ≡ nothing (ahead self.old) }
     {
-        match self.words.next_word() {
+        match self.words.next() {
             Some(word) => Err(Wrong {
                 found: Found::Word(word),
                 expected: Expected::EndOfLine,
@@ -157,7 +157,7 @@ impl<'a> Arguments<'a> {
         ensures { result_ok result ≡ all_signed (ahead self.old) }
     {
         let expected = Expected::Signed(argument);
-        while let Some(word) = self.words.next_word() {
+        while let Some(word) = self.words.next() {
             let _ = expect(read_signed(word), word, expected)?;
         }
         Ok(())

@@ -269,7 +269,7 @@ pub fn parse(line: &[u8]) -> Result<Option<Command>, Wrong<'_>>
     ensures { result_ok result ≡ understood line.now }
 {
     let mut words = Words::of(line);
-    let Some(name) = words.next_word() else {
+    let Some(name) = words.next() else {
         return Ok(None);
     };
     let verb = Verb::named(name).ok_or(Wrong {
@@ -285,8 +285,8 @@ pub fn share_weights(line: &[u8]) -> Words<'_>
     ensures { to_come result ≡ after_three line.now }
 {
     let mut words = Words::of(line);
-    let _ = words.next_word();
-    let _ = words.next_word();
-    let _ = words.next_word();
+    let _ = words.next();
+    let _ = words.next();
+    let _ = words.next();
     words
 }

@@ -1,11 +1,7 @@
-// Whole numbers in decimal, as a script writes them and as an answer shows them.
+// Whole numbers in decimal, as a script writes them.
 // A `-` stands before a negative number; there is no `+` and no other sign in a number.
-ghost use Rattle.std.specs.Prelude.{◌≡◌, ◌-◌, ◌^◌, ◌++◌, decimal, OnOk};
-ghost use Rattle.std.specs.Fmt.{signed_decimal};
+ghost use Rattle.std.specs.Prelude.{◌≡◌, ◌-◌, ◌^◌};
 ghost use Rattle.text.specs.Numbers.{numeral, unsigned_number, signed_number};
-
-use itoa::Buffer;
-use std::alloc::AllocError;
 
 // The number that the digits write, where it fits 64 bits.
 #[tactic(auto, using(crate::proofs::Reading::reading))]
@@ -39,19 +35,4 @@ pub fn read_signed(word: &[u8]) -> Option<i64>
         [b'-', digits @ ..] => 0i64.checked_sub_unsigned(read_numeral(digits)?),
         digits => i64::try_from(read_numeral(digits)?).ok(),
     }
-}
-
-// Two names for one call: a generic one would put the trait of `itoa` before the callers.
-pub fn push_unsigned(out: &mut Vec<u8>, number: u64) -> Result<(), AllocError>
-    ensures { OnOk result (out.new.items ≡ out.old.items ++ decimal number) }
-{
-    let mut digits = Buffer::new();
-    out.extend_from_slice(digits.format(number).as_bytes())
-}
-
-pub fn push_signed(out: &mut Vec<u8>, number: i64) -> Result<(), AllocError>
-    ensures { OnOk result (out.new.items ≡ out.old.items ++ signed_decimal number) }
-{
-    let mut sign_and_digits = Buffer::new();
-    out.extend_from_slice(sign_and_digits.format(number).as_bytes())
 }

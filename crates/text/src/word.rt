@@ -69,17 +69,6 @@ impl<'a> Words<'a> {
     {
         Words { rest: line }
     }
-
-    // The same as `next`, for callers that take a word here and there: two plain clauses say what it does.
-    pub fn next_word(&mut self) -> Option<&'a [u8]>
-        ensures word { option_map (λ x. x.now) result ≡ next_word (to_come self.old) }
-        ensures rest { to_come self.new ≡ after_word (to_come self.old) }
-    {
-        let text = &self.rest[blanks_length(self.rest)..];
-        let (word, rest) = text.split_at(word_length(text));
-        self.rest = rest;
-        if word.is_empty() { None } else { Some(word) }
-    }
 }
 
 impl<'a> Iterator for Words<'a> {
@@ -90,7 +79,10 @@ impl<'a> Iterator for Words<'a> {
     ghost remaining = { λ s. at_most (length s.rest.now) };
 
     fn next(&mut self) -> Option<&'a [u8]> {
-        self.next_word()
+        let text = &self.rest[blanks_length(self.rest)..];
+        let (word, rest) = text.split_at(word_length(text));
+        self.rest = rest;
+        if word.is_empty() { None } else { Some(word) }
     }
 }
 
