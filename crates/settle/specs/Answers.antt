@@ -1,0 +1,16 @@
+-- How an answer is shown in the key.
+use Rattle.std.specs.Prelude.{ℕ, List, ◌++◌, codes, ℤ}
+use Rattle.std.specs.Fmt.{signed_decimal}
+use Rattle.std.specs.List.{flat_map}
+use Rattle.faults.specs.Texts.{refusal_text}
+use Rattle.settle.specs.declared.answer.Answer.{Answer}
+use Rattle.settle.specs.declared.answer.Answer.TheVariants.{Shares, Refused, NoMonth}
+
+-- a blank, and a share as the digits that write it
+abbrev pub share_text : ℤ → List ℕ
+share_text share = codes " " ++ signed_decimal share
+
+abbrev pub answer_text : Answer → List ℕ
+answer_text (Shares shares) = codes "shares" ++ flat_map share_text shares.now
+answer_text (Refused refusal) = codes "refused " ++ refusal_text refusal
+answer_text NoMonth = codes "no month is open"
