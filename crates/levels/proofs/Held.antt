@@ -1,13 +1,18 @@
 -- A key that holds: its group and its parent are known, and it stands on a page of the parent's kind.
-use Rattle.std.proofs.Common.{◌≡◌, ℕ, Bool, true, Some, None, Option, refl}
+use Rattle.std.proofs.Common.{◌≡◌, ℕ, Bool, true, is_some, Some, None, Option, refl}
 use Rattle.std.specs.Option.{option_flatten, option_map}
 use Rattle.std.proofs.lemmas.Bool.{and_parts, false≢true}
 use Rattle.faults.specs.declared.key.Key.{Key}
-use Rattle.tariff.specs.Month.{group_of, is_interval, kind_of_group, parent_of}
+use Rattle.tariff.proofs.TariffSound.{tariff_sound}
+use Rattle.tariff.specs.Month.{group_of, is_group, is_interval, kind_of_group, parent_of}
 use Rattle.tariff.specs.Pages.{kind_of_parent}
 use Rattle.tariff.specs.declared.page_kind.PageKind.{PageKind}
 use Rattle.tariff.specs.declared.parent.Parent.{Parent}
 use Rattle.levels.specs.Terms.{Terms, holds, on_kind, stands, takes_part}
+
+-- just the groups have a parent
+pub grouped : (year month group : ℕ) → is_some (parent_of year month group) ≡ is_group year month group
+grouped year month group = (tariff_sound year month).with_parent group
 
 pub record Held (t : Terms) (k : Key) : Type 0 where
   pub group : ℕ

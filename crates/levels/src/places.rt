@@ -1,6 +1,6 @@
 // Where the amounts of a month may stand: its participants, and the pages and intervals of its codes.
-ghost use Rattle.std.specs.Prelude.{◌≡◌, ◌≤◌, T, is_some};
-ghost use Rattle.tariff.specs.Month.{is_group, parent_of};
+ghost use Rattle.std.specs.Prelude.{◌≡◌, ◌≤◌, T};
+ghost use Rattle.tariff.specs.Month.{is_group};
 ghost use Rattle.levels.specs.Questions.{has_page, in_table, on_page};
 ghost use Rattle.levels.specs.Terms.{stands, takes_part, terms_of};
 
@@ -17,14 +17,9 @@ impl Opening {
     }
 
     // Whether a number is a group: just the groups have a parent.
+    #[tactic(auto, using(crate::proofs::Held::grouped))]
     pub fn has_group(self, group: u32) -> bool
         ensures { result ≡ is_group self.month.year self.month.month group }
-    {
-        self.has_parent(group)
-    }
-
-    fn has_parent(self, group: u32) -> bool
-        ensures { result ≡ is_some (parent_of self.month.year self.month.month group) }
     {
         self.month.parent_of(group).is_some()
     }
