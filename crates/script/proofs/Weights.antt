@@ -36,7 +36,3 @@ all_signed_word t w e =
     one_more t
     ∙ (ap (λ o. word_then o (signed_within (length t) (after_word t))) (sym e)
     ∙ ap (λ x. given (signed_number w) (λ _. x)) (signed_enough (length t) (length (after_word t)) (after_word t) (omega arith) (omega arith)))
-
--- no word is left
-pub all_signed_none : (t : List ℕ) → None ≡ next_word t → all_signed t ≡ Some tt
-all_signed_none t e = one_more t ∙ ap (λ o. word_then o (signed_within (length t) (after_word t))) (sym e)

@@ -1,3 +1,4 @@
 pub mod Grammar
+pub mod Names
 pub mod Readings
 pub mod Verbs

@@ -7,36 +7,31 @@ ghost use Rattle.script.specs.Readings.{ahead, unsigned, unsigned_or, signed, ke
 ghost use Rattle.script.specs.Verbs.{rule_named, path_named};
 ghost use Rattle.text.specs.Words.{next_word, after_word};
 
+use crate::names::meaning_of;
 use crate::wrong::{Argument, Expected, Found, Wrong};
 use faults::Key;
 use ledger::Path;
 use shares::NamedRule;
-use text::{Words, is_spelt, read_signed, read_unsigned};
+use text::{Words, read_signed, read_unsigned};
+
+const RULES: [(&str, NamedRule); 3] = [
+    ("nearest", NamedRule::Nearest),
+    ("largest-remainder", NamedRule::LargestRemainder),
+    ("running-carry", NamedRule::RunningCarry),
+];
 
 fn rule_named(word: &[u8]) -> Option<NamedRule>
     ensures { result ≡ rule_named word.now }
 {
-    if is_spelt(word, "nearest") {
-        Some(NamedRule::Nearest)
-    } else if is_spelt(word, "largest-remainder") {
-        Some(NamedRule::LargestRemainder)
-    } else if is_spelt(word, "running-carry") {
-        Some(NamedRule::RunningCarry)
-    } else {
-        None
-    }
+    meaning_of(word, &RULES)
 }
+
+const PATHS: [(&str, Path); 2] = [("system", Path::System), ("adjustment", Path::Adjustment)];
 
 fn path_named(word: &[u8]) -> Option<Path>
     ensures { result ≡ path_named word.now }
 {
-    if is_spelt(word, "system") {
-        Some(Path::System)
-    } else if is_spelt(word, "adjustment") {
-        Some(Path::Adjustment)
-    } else {
-        None
-    }
+    meaning_of(word, &PATHS)
 }
 
 // What a word was read as, or that it is not what was expected.
@@ -60,6 +55,9 @@ impl<'a> Arguments<'a> {
     {
         Arguments { words }
     }
+
+    // What is read of a word is two calls each time, `word` and `expect`: one function for all would take
+    // the reading as a closure, and its contract would be longer than they are.
 
     pub fn word(&mut self, expected: Expected) -> Result<&'a [u8], Wrong<'a>>
         ensures word { option_map (λ x. x.now) (result_ok result) ≡ next_word (ahead self.old) }

@@ -2,8 +2,7 @@
 ghost use Rattle.std.specs.Prelude.{◌≡◌};
 ghost use Rattle.std.specs.Result.{result_ok};
 ghost use Rattle.script.specs.Grammar.{places, opening, last_unsigned, entry, participant_and_page, on_page};
-ghost use Rattle.script.specs.Grammar.{post, meter, adjust, allocate, strike, allot, withdraw};
-ghost use Rattle.script.specs.Grammar.{subtotal, interval, code, group, parent, settlement, month, balance, share};
+ghost use Rattle.script.specs.Grammar.{meter, allocate, allot, subtotal, interval, balance, share};
 ghost use Rattle.script.specs.Grammar.{arguments_of, understood};
 ghost use Rattle.script.specs.Readings.{ahead, after_three};
 ghost use Rattle.text.specs.Taking.{to_come};
@@ -72,13 +71,6 @@ impl<'a> Arguments<'a> {
         Ok((key, cents))
     }
 
-    fn post(&mut self) -> Result<Call, Wrong<'a>>
-        ensures { result_ok result ≡ post (ahead self.old) }
-    {
-        let (key, cents) = self.entry()?;
-        Ok(Call::Post { key, cents })
-    }
-
     fn meter(&mut self) -> Result<Call, Wrong<'a>>
         ensures { result_ok result ≡ meter (ahead self.old) }
     {
@@ -93,13 +85,6 @@ impl<'a> Arguments<'a> {
             interval,
             kwh,
         })
-    }
-
-    fn adjust(&mut self) -> Result<Call, Wrong<'a>>
-        ensures { result_ok result ≡ adjust (ahead self.old) }
-    {
-        let (key, cents) = self.entry()?;
-        Ok(Call::Adjust { key, cents })
     }
 
     fn allocate(&mut self) -> Result<Call, Wrong<'a>>
@@ -118,13 +103,6 @@ impl<'a> Arguments<'a> {
         })
     }
 
-    fn strike(&mut self) -> Result<Call, Wrong<'a>>
-        ensures { result_ok result ≡ strike (ahead self.old) }
-    {
-        let page = self.last_unsigned(Argument::Page)?;
-        Ok(Call::Strike { page })
-    }
-
     fn allot(&mut self) -> Result<Call, Wrong<'a>>
         ensures { result_ok result ≡ allot (ahead self.old) }
     {
@@ -132,13 +110,6 @@ impl<'a> Arguments<'a> {
         let places = self.unsigned_or(Argument::Places, SHARES_PLACES)?;
         self.end()?;
         Ok(Call::Allot { page, places })
-    }
-
-    fn withdraw(&mut self) -> Result<Call, Wrong<'a>>
-        ensures { result_ok result ≡ withdraw (ahead self.old) }
-    {
-        let page = self.last_unsigned(Argument::Page)?;
-        Ok(Call::Withdraw { page })
     }
 
     fn subtotal(&mut self) -> Result<Question, Wrong<'a>>
@@ -175,53 +146,6 @@ impl<'a> Arguments<'a> {
         Ok((number, place))
     }
 
-    fn code(&mut self) -> Result<Question, Wrong<'a>>
-        ensures { result_ok result ≡ code (ahead self.old) }
-    {
-        let (code, (participant, page)) = self.on_page(Argument::Code)?;
-        Ok(Question::Code {
-            code,
-            participant,
-            page,
-        })
-    }
-
-    fn group(&mut self) -> Result<Question, Wrong<'a>>
-        ensures { result_ok result ≡ group (ahead self.old) }
-    {
-        let (group, (participant, page)) = self.on_page(Argument::Group)?;
-        Ok(Question::Group {
-            group,
-            participant,
-            page,
-        })
-    }
-
-    fn parent(&mut self) -> Result<Question, Wrong<'a>>
-        ensures { result_ok result ≡ parent (ahead self.old) }
-    {
-        let (parent, (participant, page)) = self.on_page(Argument::Parent)?;
-        Ok(Question::Parent {
-            parent,
-            participant,
-            page,
-        })
-    }
-
-    fn settlement(&mut self) -> Result<Question, Wrong<'a>>
-        ensures { result_ok result ≡ settlement (ahead self.old) }
-    {
-        let (participant, page) = self.participant_and_page()?;
-        Ok(Question::Settlement { participant, page })
-    }
-
-    fn month(&mut self) -> Result<Question, Wrong<'a>>
-        ensures { result_ok result ≡ month (ahead self.old) }
-    {
-        let participant = self.last_unsigned(Argument::Participant)?;
-        Ok(Question::Month { participant })
-    }
-
     fn balance(&mut self) -> Result<Command, Wrong<'a>>
         ensures { result_ok result ≡ balance (ahead self.old) }
     {
@@ -239,25 +163,62 @@ impl<'a> Arguments<'a> {
         Ok(Sharing { rule, amount })
     }
 
+    // What several commands want is read by one method; what each makes of it stands here.
     fn command(&mut self, verb: Verb) -> Result<Command, Wrong<'a>>
         ensures { result_ok result ≡ arguments_of verb (ahead self.old) }
     {
         Ok(match verb {
             Verb::Open => Command::Open(self.opening()?),
-            Verb::Post => Command::Call(self.post()?),
+            Verb::Post => {
+                let (key, cents) = self.entry()?;
+                Command::Call(Call::Post { key, cents })
+            }
             Verb::Meter => Command::Call(self.meter()?),
-            Verb::Adjust => Command::Call(self.adjust()?),
+            Verb::Adjust => {
+                let (key, cents) = self.entry()?;
+                Command::Call(Call::Adjust { key, cents })
+            }
             Verb::Allocate => Command::Call(self.allocate()?),
-            Verb::Strike => Command::Call(self.strike()?),
+            Verb::Strike => Command::Call(Call::Strike {
+                page: self.last_unsigned(Argument::Page)?,
+            }),
             Verb::Allot => Command::Call(self.allot()?),
-            Verb::Withdraw => Command::Call(self.withdraw()?),
+            Verb::Withdraw => Command::Call(Call::Withdraw {
+                page: self.last_unsigned(Argument::Page)?,
+            }),
             Verb::Subtotal => Command::Ask(self.subtotal()?),
             Verb::Interval => Command::Ask(self.interval()?),
-            Verb::Code => Command::Ask(self.code()?),
-            Verb::Group => Command::Ask(self.group()?),
-            Verb::Parent => Command::Ask(self.parent()?),
-            Verb::Settlement => Command::Ask(self.settlement()?),
-            Verb::Month => Command::Ask(self.month()?),
+            Verb::Code => {
+                let (code, (participant, page)) = self.on_page(Argument::Code)?;
+                Command::Ask(Question::Code {
+                    code,
+                    participant,
+                    page,
+                })
+            }
+            Verb::Group => {
+                let (group, (participant, page)) = self.on_page(Argument::Group)?;
+                Command::Ask(Question::Group {
+                    group,
+                    participant,
+                    page,
+                })
+            }
+            Verb::Parent => {
+                let (parent, (participant, page)) = self.on_page(Argument::Parent)?;
+                Command::Ask(Question::Parent {
+                    parent,
+                    participant,
+                    page,
+                })
+            }
+            Verb::Settlement => {
+                let (participant, page) = self.participant_and_page()?;
+                Command::Ask(Question::Settlement { participant, page })
+            }
+            Verb::Month => Command::Ask(Question::Month {
+                participant: self.last_unsigned(Argument::Participant)?,
+            }),
             Verb::Balance => self.balance()?,
             Verb::Share => Command::Share(self.share()?),
         })

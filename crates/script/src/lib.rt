@@ -5,6 +5,7 @@
 mod arguments;
 mod command;
 mod grammar;
+mod names;
 mod verb;
 mod wrong;
 

@@ -1,8 +1,9 @@
-// The names of the commands.
+// The commands of a script, and the names that they have there: the first word of a line is one.
+// What a command wants after its name stands in the grammar.
 ghost use Rattle.std.specs.Prelude.{◌≡◌};
 ghost use Rattle.script.specs.Verbs.{month_verb, question_verb, verb};
 
-use text::is_spelt;
+use crate::names::meaning_of;
 
 #[derive(Clone, Copy)]
 pub enum Verb {
@@ -25,65 +26,50 @@ pub enum Verb {
     Share,
 }
 
+// The calls on a month.
+const MONTH_VERBS: [(&str, Verb); 7] = [
+    ("post", Verb::Post),
+    ("meter", Verb::Meter),
+    ("adjust", Verb::Adjust),
+    ("allocate", Verb::Allocate),
+    ("strike", Verb::Strike),
+    ("allot", Verb::Allot),
+    ("withdraw", Verb::Withdraw),
+];
+
 fn month_verb(name: &[u8]) -> Option<Verb>
     ensures { result ≡ month_verb name.now }
 {
-    if is_spelt(name, "post") {
-        Some(Verb::Post)
-    } else if is_spelt(name, "meter") {
-        Some(Verb::Meter)
-    } else if is_spelt(name, "adjust") {
-        Some(Verb::Adjust)
-    } else if is_spelt(name, "allocate") {
-        Some(Verb::Allocate)
-    } else if is_spelt(name, "strike") {
-        Some(Verb::Strike)
-    } else if is_spelt(name, "allot") {
-        Some(Verb::Allot)
-    } else if is_spelt(name, "withdraw") {
-        Some(Verb::Withdraw)
-    } else {
-        None
-    }
+    meaning_of(name, &MONTH_VERBS)
 }
+
+// The questions to a month.
+const QUESTION_VERBS: [(&str, Verb); 8] = [
+    ("subtotal", Verb::Subtotal),
+    ("interval", Verb::Interval),
+    ("code", Verb::Code),
+    ("group", Verb::Group),
+    ("parent", Verb::Parent),
+    ("settlement", Verb::Settlement),
+    ("month", Verb::Month),
+    ("balance", Verb::Balance),
+];
 
 fn question_verb(name: &[u8]) -> Option<Verb>
     ensures { result ≡ question_verb name.now }
 {
-    if is_spelt(name, "subtotal") {
-        Some(Verb::Subtotal)
-    } else if is_spelt(name, "interval") {
-        Some(Verb::Interval)
-    } else if is_spelt(name, "code") {
-        Some(Verb::Code)
-    } else if is_spelt(name, "group") {
-        Some(Verb::Group)
-    } else if is_spelt(name, "parent") {
-        Some(Verb::Parent)
-    } else if is_spelt(name, "settlement") {
-        Some(Verb::Settlement)
-    } else if is_spelt(name, "month") {
-        Some(Verb::Month)
-    } else if is_spelt(name, "balance") {
-        Some(Verb::Balance)
-    } else {
-        None
-    }
+    meaning_of(name, &QUESTION_VERBS)
 }
+
+// The other commands.
+const OTHER_VERBS: [(&str, Verb); 2] = [("open", Verb::Open), ("share", Verb::Share)];
 
 impl Verb {
     pub fn named(name: &[u8]) -> Option<Verb>
         ensures { result ≡ verb name.now }
     {
-        if is_spelt(name, "open") {
-            return Some(Verb::Open);
-        }
-        if is_spelt(name, "share") {
-            return Some(Verb::Share);
-        }
-        match month_verb(name) {
-            Some(verb) => Some(verb),
-            None => question_verb(name),
-        }
+        meaning_of(name, &OTHER_VERBS)
+            .or_else(|| month_verb(name))
+            .or_else(|| question_verb(name))
     }
 }
