@@ -1,8 +1,6 @@
 -- Adjusting: what one adjustment more changes in a layer.
-use Rattle.std.proofs.Common.{◌≡◌, ℕ, ◌+◌, ◌-◌, ◌<◌, Bool, true, false, ◌||◌, List, [], ◌∷◌, ◌++◌, length, take, None, sym, refl, ap, ◌∙◌, arith}
-use Rattle.std.proofs.lemmas.List.{length-take, length-append, take_all}
+use Rattle.std.proofs.Common.{◌≡◌, ℕ, Bool, true, false, ◌||◌, List, [], ◌∷◌, ◌++◌, None, refl, ap, ◌∙◌}
 use Rattle.faults.specs.declared.layer.Layer.TheVariants as tier
-use Rattle.ledger.specs.Amounts.{most_lines}
 use Rattle.ledger.specs.Books.{posted}
 use Rattle.faults.specs.Keys.{same}
 use Rattle.ledger.specs.Kinds.{cents}
@@ -13,14 +11,6 @@ use Rattle.ledger.specs.declared.cents.Cents.{Cents}
 use Rattle.faults.specs.declared.key.Key.{Key}
 use Rattle.ledger.proofs.Appending.{amount_pushed}
 use Rattle.ledger.proofs.Granting.{granted_had}
-
--- with a line left all that are held count, and so does one more
-pub held_pushed : (entries : List Adjustment) (lines : ℕ) (a : Adjustment) → lines + length (take (most_lines - lines) entries) < most_lines → take (most_lines - lines) (entries ++ (a ∷ [])) ≡ take (most_lines - lines) entries ++ (a ∷ [])
-held_pushed entries lines a few =
-    let n = length-take (most_lines - lines) entries in
-    let all : take (most_lines - lines) entries ≡ entries = take_all (most_lines - lines) entries (omega (arith, n)) in
-    take_all (most_lines - lines) (entries ++ (a ∷ [])) (omega (arith, n, length-append entries (a ∷ [])))
-    ∙ ap (λ es. es ++ (a ∷ [])) (sym all)
 
 -- it adds to the layer's own amounts
 pub own_adjusted : (before after : Layer) (k : Key) (x : Cents) (number : ℕ) → None ≡ adjust_refusal before k x → Adjusted before k x number after → (q : Key) → own after q ≡ posted cents (own before) k x q

@@ -3,14 +3,11 @@ use Rattle.ledger.proofs.Appending.{journal_bounded}
 use Rattle.ledger.proofs.Bounds.{nought_unbacked}
 use Rattle.ledger.proofs.journal.JournalBook.lines.Goals as goal
 
-pub returns : goal.returns
-returns g c =
-    let laws = g.K.Amount.laws in
+pub returns-clause-bound : goal.returns-clause-bound
+returns-clause-bound g c = journal_bounded g.K.Amount.laws c.args.self.now.entries.now c.args.self.now.used
+
+pub returns-clause-empty : goal.returns-clause-empty
+returns-clause-empty g c =
     let s = c.args.self.now in
     let m = journal_means g.K.Amount.kind s.entries.now s.used in
-    let bounded = journal_bounded laws s.entries.now s.used in
-    record {
-      count = c.standing_in.ensures;
-      bound = bounded;
-      empty = nought_unbacked laws m.amount m.lines bounded;
-    }
+    nought_unbacked g.K.Amount.laws m.amount m.lines (journal_bounded g.K.Amount.laws s.entries.now s.used)
