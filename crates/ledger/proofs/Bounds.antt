@@ -22,9 +22,9 @@ same_key p q e =
     let d = and_parts (eqb p.page q.page) (eqb p.interval q.interval) b.1 in
     keys_same (eqb-true p.code q.code a.0) (eqb-true p.participant q.participant b.0) (eqb-true p.page q.page d.0) (eqb-true p.interval q.interval d.1)
 
-sumBy_le_both : {Y : Type 0} (f g h : Y → ℕ) → ((y : Y) → f y ≤ g y + h y) → (ys : List Y) → sum_by f ys ≤ sum_by g ys + sum_by h ys
-sumBy_le_both f g h le [] = omega arith
-sumBy_le_both f g h le (y ∷ ys) = omega (arith, le y, sumBy_le_both f g h le ys, sum_by-cons f y ys, sum_by-cons g y ys, sum_by-cons h y ys)
+sum_by_le_both : {Y : Type 0} (f g h : Y → ℕ) → ((y : Y) → f y ≤ g y + h y) → (ys : List Y) → sum_by f ys ≤ sum_by g ys + sum_by h ys
+sum_by_le_both f g h le [] = omega arith
+sum_by_le_both f g h le (y ∷ ys) = omega (arith, le y, sum_by_le_both f g h le ys, sum_by-cons f y ys, sum_by-cons g y ys, sum_by-cons h y ys)
 
 module _ {X : Type 0} {kind : Kind X} (laws : Laws kind) where
   counted_size : (x : X) → kind.size (counted kind x) ≤ kind.largest
@@ -95,7 +95,7 @@ module _ {X : Type 0} {kind : Kind X} (laws : Laws kind) where
         add-mul m n kind.largest,
         bf ks d,
         bg ks d,
-        sumBy_le_both (λ k. kind.size (kind.joined (f k) (g k))) (λ k. kind.size (f k)) (λ k. kind.size (g k)) (λ q. laws.sizes (f q) (g q)) ks,
+        sum_by_le_both (λ k. kind.size (kind.joined (f k) (g k))) (λ k. kind.size (f k)) (λ k. kind.size (g k)) (λ q. laws.sizes (f q) (g q)) ks,
       )
 
   pub lines_backed : {E : Type 0} (line : E → Line X) (es : List E) → Backed kind (amount_of kind line es) (length es)

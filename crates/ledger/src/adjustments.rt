@@ -3,7 +3,7 @@
 // what is here the adjustment path, and the book that the layer is means both together.
 ghost use Rattle.std.specs.Prelude.{◌≡◌, ◌<◌, ◌≤◌, false, length, MatchResult};
 ghost use Rattle.ledger.specs.Amounts.{most_lines};
-ghost use Rattle.ledger.specs.Books.{Within, line_refusals, post_refusal};
+ghost use Rattle.ledger.specs.Books.{Within, post_refusal};
 ghost use Rattle.faults.specs.Faults.{answered};
 ghost use Rattle.ledger.specs.Faults.{adjust_told};
 ghost use Rattle.ledger.specs.Kinds.{cents};

@@ -9,6 +9,7 @@ pub trait Amount: Copy {
 
     ghost laws: { Laws kind };
 
+    // No `Default`: a bound on that could not say that it is the nought of the kind.
     fn nought() -> Self
         ensures { result ≡ kind.nought };
 

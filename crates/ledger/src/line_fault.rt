@@ -34,7 +34,7 @@ impl LineFault {
     }
 }
 
-// The first cause to refuse a line.
+// The first cause to refuse a line. Whether its layer is full is the answer of one test, with no value beside it.
 pub(crate) fn check_line<K: Amount>(key: Key, amount: K, full: bool) -> Result<(), LineFault>
     ensures answer { (layer : Layer) → answered (line_told layer) result
         ≡ first_met layer key (line_refusals K.Amount.kind key amount full) }

@@ -12,6 +12,7 @@ pub enum Codes {
     Every,
     Only(u32),
     Group(u32),
+    // By its number, as a question gives it: any number can be asked about.
     Parent(u32),
     // Those of the groups that are neutral on a kind of page.
     Neutral(PageKind),

@@ -50,6 +50,7 @@ impl Opening {
     }
 
     // The intervals that each page of a kind has: every day has as many as the first.
+    // Its match stands beside that of `pages`: a helper for both would be a third.
     pub fn intervals(self, kind: PageKind) -> Span
         ensures { result ≡ each_intervals (terms_of self) kind }
     {

@@ -26,6 +26,7 @@ pub enum Verb {
     Share,
 }
 
+// Three tables, as the definition of the names has three parts.
 // The calls on a month.
 const MONTH_VERBS: [(&str, Verb); 7] = [
     ("post", Verb::Post),

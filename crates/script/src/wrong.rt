@@ -89,12 +89,11 @@ const SHOWN: usize = 60;
 
 fn show_word<W: fmt::Write>(word: &[u8], f: &mut fmt::Formatter<W>) -> fmt::Result {
     f.write_str("'")?;
-    for byte in word.iter().take(SHOWN) {
-        let byte = *byte;
-        if byte < b' ' || byte > b'~' {
-            write!(f, "\\x{byte:02x}")?;
+    for byte in word.iter().copied().take(SHOWN) {
+        if (b' '..=b'~').contains(&byte) {
+            f.write_char(char::from(byte))?;
         } else {
-            f.write_char(byte as char)?;
+            write!(f, "\\x{byte:02x}")?;
         }
     }
     f.write_str(if word.len() > SHOWN { "..'" } else { "'" })

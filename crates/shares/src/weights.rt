@@ -21,6 +21,7 @@ fn add_weight(total: u64, weight: i64) -> Result<u64, RuleFault>
     if weight < 0 {
         return Err(RuleFault::Weights);
     }
+    // It saturates, so that nothing is asked of the total: what is too large for the type is above the limit too.
     let sum = total.saturating_add(weight.unsigned_abs());
     if sum > WEIGHT_LIMIT {
         return Err(RuleFault::Weights);

@@ -4,6 +4,7 @@ ghost use Rattle.std.specs.Prelude.{◌≡◌, ◌-◌, ◌^◌};
 ghost use Rattle.text.specs.Numbers.{numeral, unsigned_number, signed_number};
 
 // The number that the digits write, where it fits 64 bits.
+// No `parse`: that reads text, which the bytes of a word need not be, and takes a `+`, which no number here has.
 #[tactic(auto, using(crate::proofs::Reading::reading))]
 fn read_numeral(word: &[u8]) -> Option<u64>
     ensures { result ≡ numeral (2 ^ 64 - 1) word.now }

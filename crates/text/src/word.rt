@@ -2,11 +2,10 @@
 // A line ends at a line feed or at the end of the text. Words are parted by blanks, and `#` begins
 // a comment, which has no words.
 ghost use Rattle.std.specs.Prelude.{◌≡◌, ◌≤◌, length};
-ghost use Rattle.std.specs.Option.{option_map};
 ghost use Rattle.std.specs.List.{prefix_len};
 ghost use Rattle.std.specs.Str.{bytes_eq};
 ghost use Rattle.text.specs.Taking.{TakesWord, TakesLine, to_come};
-ghost use Rattle.text.specs.Words.{blank, in_word, in_line, next_word, after_word, next_line, after_line};
+ghost use Rattle.text.specs.Words.{blank, in_word, in_line};
 ghost use Rattle.std.specs.Iterator.{at_most};
 
 fn is_blank(byte: u8) -> bool
