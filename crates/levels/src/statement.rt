@@ -21,16 +21,9 @@ fn side(cents: i64) -> Balance
     requires { unsigned_abs cents < 2 ^ 63 }
     ensures { result ≡ side_of cents }
 {
-    if cents < 0 {
-        Balance {
-            debtors: 0,
-            creditors: -cents,
-        }
-    } else {
-        Balance {
-            debtors: cents,
-            creditors: 0,
-        }
+    Balance {
+        debtors: cents.max(0),
+        creditors: (-cents).max(0),
     }
 }
 

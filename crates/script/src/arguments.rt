@@ -155,7 +155,7 @@ impl<'a> Arguments<'a> {
         ensures { result_ok result ≡ all_signed (ahead self.old) }
     {
         let expected = Expected::Signed(argument);
-        while let Some(word) = self.words.next() {
+        for word in self.words {
             let _ = expect(read_signed(word), word, expected)?;
         }
         Ok(())
