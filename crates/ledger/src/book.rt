@@ -26,6 +26,7 @@ pub trait Book {
     // Nothing is known of a constant in generic code: this says what `LIMIT` promises.
     ghost limited: { (book : Self) → Limited (means book) };
 
+    // A key and an amount, as the rules put a post; a `Line` is what some books keep of it.
     fn post(&mut self, key: Key, amount: Self::Amount) -> Result<(), Self::Fault>
         ensures answer { answered Self.Fault.Fault.told result
             ≡ post_refusal Self.Amount.Amount.kind (means self.old) key amount }

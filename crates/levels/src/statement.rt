@@ -10,6 +10,7 @@ use crate::question::Question;
 use crate::question_fault::QuestionFault;
 use ledger::{Adjustments, Amount, Balance, Book, Cents};
 
+// No `Model` makes its terms and its layer one value: each clause would take the pair apart again.
 #[derive(Drop)]
 pub struct Statement<'a, B> {
     pub opening: Opening,

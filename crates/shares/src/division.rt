@@ -22,6 +22,7 @@ impl Division {
         self.amount.unsigned_abs()
     }
 
+    // That a part is within the total ties two values, so each that takes a part asks it.
     // The part rounded down.
     pub(crate) fn rounded_down(self, part: u64) -> u64
         requires { part ≤ self.total }

@@ -17,6 +17,8 @@ impl ShareRule for Nearest {
 
     fn share(&self, amount: i64, weights: &[i64], shares: &mut [i64]) -> Result<(), RuleFault> {
         let division = admit(amount, weights, shares.len())?;
+        // A loop of its own, as the other rules have: one for all would take each rule's step as a closure, and its
+        // contract would speak of the state of every call.
         // By index: of places written through `zip` and `iter_mut` nothing is known once the loop is over.
         for (i, weight) in weights.iter().enumerate() {
             let size = division.nearest(weight.unsigned_abs());

@@ -74,6 +74,7 @@ impl TradingMonth {
         kind.is_neutral(group)
     }
 
+    // That a page is at most 31 ties the answer to the page, so each such test says it.
     // Whether it has a page of a kind.
     pub fn has_page(self, kind: PageKind, page: u32) -> bool
         ensures value { result ≡ is_page self.year self.month kind page }
