@@ -1,5 +1,5 @@
--- How an answer is shown in the key.
-use Rattle.std.specs.Prelude.{ℕ, List, ◌++◌, codes, ℤ}
+-- How an answer is shown in the key, and whether it is counted as granted.
+use Rattle.std.specs.Prelude.{ℕ, Bool, true, false, List, ◌++◌, codes, ℤ}
 use Rattle.std.specs.Fmt.{signed_decimal}
 use Rattle.std.specs.List.{flat_map}
 use Rattle.faults.specs.Texts.{refusal_text}
@@ -14,3 +14,9 @@ abbrev pub answer_text : Answer → List ℕ
 answer_text (Shares shares) = codes "shares" ++ flat_map share_text shares.now
 answer_text (Refused refusal) = codes "refused " ++ refusal_text refusal
 answer_text NoMonth = codes "no month is open"
+
+-- whether an answer counts as granted
+abbrev pub is_granted : Answer → Bool
+is_granted (Shares shares) = true
+is_granted (Refused refusal) = false
+is_granted NoMonth = false

@@ -1,8 +1,8 @@
 // What a command is answered with, and how the key shows it.
-ghost use Rattle.std.specs.Prelude.{Some, codes, ◌++◌};
+ghost use Rattle.std.specs.Prelude.{◌≡◌, Some, codes, ◌++◌};
 ghost use Rattle.std.specs.Fmt.{DisplaysOnOk};
 ghost use Rattle.std.specs.List.{flat_map};
-ghost use Rattle.settle.specs.Answers.{answer_text, share_text};
+ghost use Rattle.settle.specs.Answers.{answer_text, is_granted, share_text};
 
 use faults::Refusal;
 use std::fmt;
@@ -16,7 +16,10 @@ pub enum Answer<'a> {
 }
 
 impl Answer<'_> {
-    pub fn is_granted(&self) -> bool {
+    // Whether it gives what was asked for; every other answer turns the command down.
+    pub fn is_granted(&self) -> bool
+        ensures { result ≡ is_granted self.now }
+    {
         matches!(self, Answer::Shares(_))
     }
 }
