@@ -4,5 +4,5 @@
 mod number;
 mod word;
 
-pub use number::{read_signed, read_unsigned};
+pub use number::{push_signed, push_unsigned, read_signed, read_unsigned};
 pub use word::{Line, Lines, Words, is_spelt};

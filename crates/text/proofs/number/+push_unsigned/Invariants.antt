@@ -1,0 +1,4 @@
+use Rattle.text.proofs.number.+push_unsigned.Given as goal
+
+abbrev pub decreases-push_unsigned : goal.decreases-push_unsigned
+decreases-push_unsigned l = l.number
