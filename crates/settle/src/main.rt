@@ -3,28 +3,54 @@
 #![tactic(auto)]
 
 mod answer;
+mod block;
 mod desk;
 mod help;
 mod input;
 mod sheet;
 
-use anyhow::{Context, anyhow, bail};
 use desk::Desk;
 use help::HELP;
 use input::{Request, Source, requested};
-use script::parse;
+use script::{Wrong, parse};
 use sheet::Sheet;
 use std::alloc::Global;
-use std::io;
 use std::io::Write;
 use std::process::ExitCode;
+use std::{fmt, io};
 use text::Lines;
 
+// Why no key was printed. No `anyhow::Error` says it: that keeps 120 bytes of a message, and a long word with what was
+// expected in its place takes more, as a path may.
+#[derive(Drop)]
+enum Failure<'a> {
+    Unread(&'a Source, io::Error),
+    NotUnderstood(u64, Wrong<'a>),
+    Unwritten(io::Error),
+}
+
+impl fmt::Display for Failure<'_> {
+    fn fmt<W: fmt::Write>(&self, f: &mut fmt::Formatter<W>) -> fmt::Result {
+        match self {
+            Failure::Unread(source, e) => write!(f, "cannot read {source}: {e}"),
+            Failure::NotUnderstood(line, wrong) => write!(f, "line {line}: {wrong}"),
+            Failure::Unwritten(e) => write!(f, "cannot write the key: {e}"),
+        }
+    }
+}
+
+// Only while the key is written an error of the library comes up by `?`.
+impl From<io::Error> for Failure<'_> {
+    fn from(e: io::Error) -> Self {
+        Failure::Unwritten(e)
+    }
+}
+
 // Fails at the first line that is not understood.
-fn check(text: &[u8]) -> anyhow::Result<()> {
+fn check(text: &[u8]) -> Result<(), Failure<'_>> {
     for line in Lines::of(text) {
         if let Err(wrong) = parse(line.text) {
-            bail!("line {}: {wrong}", line.number);
+            return Err(Failure::NotUnderstood(line.number, wrong));
         }
     }
     Ok(())
@@ -43,20 +69,18 @@ fn run<W: Write + Drop>(heap: Global, text: &[u8], to: W) -> io::Result<()> {
     sheet.finish()
 }
 
-fn exercise(rt: &HostRuntime, source: &Source) -> anyhow::Result<()> {
-    let text = source
-        .read(rt)
-        .context(format_args!("cannot read {source}"))?;
-    check(text.as_slice())?;
-    run(rt.alloc(), text.as_slice(), rt.stdout()).context("cannot write the key")
+fn exercise<'a>(rt: &HostRuntime, text: &'a [u8]) -> Result<(), Failure<'a>> {
+    check(text)?;
+    run(rt.alloc(), text, rt.stdout())?;
+    Ok(())
 }
 
 // What went wrong is said on standard error, and the status is 1 then.
-fn told(rt: &HostRuntime, done: anyhow::Result<()>) -> ExitCode {
+fn told<E: fmt::Display + Drop>(rt: &HostRuntime, done: Result<(), E>) -> ExitCode {
     match done {
         Ok(()) => ExitCode::SUCCESS,
         Err(e) => {
-            let _ = eprintln!(rt; "settle: {e:#}");
+            let _ = eprintln!(rt; "settle: {e}");
             ExitCode::FAILURE
         }
     }
@@ -65,11 +89,17 @@ fn told(rt: &HostRuntime, done: anyhow::Result<()>) -> ExitCode {
 // An error that `main` returns would be printed once more, so it returns the status alone.
 fn main(rt: HostRuntime) -> ExitCode {
     match requested(&rt) {
-        Ok(Request::Run(source)) => told(&rt, exercise(&rt, &source)),
+        Ok(Request::Run(source)) => match source.read(&rt) {
+            Ok(text) => told(&rt, exercise(&rt, text.as_slice())),
+            Err(e) => told(&rt, Err(Failure::Unread(&source, e))),
+        },
         Ok(Request::Help) => match rt.print(HELP) {
             Ok(()) => ExitCode::SUCCESS,
             Err(_) => ExitCode::FAILURE,
         },
-        Err(e) => told(&rt, Err(anyhow!("{e}; settle --help says how to use it"))),
+        Err(e) => told(
+            &rt,
+            Err(format_args!("{e}; settle --help says how to use it")),
+        ),
     }
 }

@@ -1,24 +1,28 @@
 // The key as it is written: a line for each command, and at the end how many were granted and refused.
+// It is gathered in memory and handed on in blocks of whole lines.
 use crate::answer::Answer;
-use std::alloc::Global;
+use crate::block::Block;
+use std::alloc::{AllocError, Global};
 use std::io;
-use std::io::{BufWriter, Write};
+use std::io::Write;
 use text::{Line, Words};
 
-// The key is handed on in blocks of this many bytes.
+// A block is handed on once it is this long.
 const BLOCK: usize = 65_536;
 
 #[derive(Drop)]
-pub struct Sheet<W: Write + Drop> {
-    to: BufWriter<W>,
+pub struct Sheet<W> {
+    block: Block,
+    to: W,
     granted: u64,
     refused: u64,
 }
 
 impl<W: Write + Drop> Sheet<W> {
-    pub fn new(heap: Global, to: W) -> io::Result<Sheet<W>> {
+    pub fn new(heap: Global, to: W) -> Result<Sheet<W>, AllocError> {
         Ok(Sheet {
-            to: BufWriter::with_capacity(heap, BLOCK, to)?,
+            block: Block::with_capacity(heap, 2 * BLOCK)?,
+            to,
             granted: 0,
             refused: 0,
         })
@@ -26,13 +30,19 @@ impl<W: Write + Drop> Sheet<W> {
 
     // The line's number, its words with single blanks, the arrow and the answer.
     pub fn write(&mut self, line: &Line<'_>, answer: &Answer<'_>) -> io::Result<()> {
-        write!(self.to, "{}:", line.number)?;
+        self.block.number(line.number)?;
+        self.block.word(b":")?;
         for word in Words::of(line.text) {
-            self.to.write_all(b" ")?;
-            self.to.write_all(word)?;
+            self.block.word(b" ")?;
+            self.block.word(word)?;
         }
-        writeln!(self.to, " -> {answer}")?;
+        self.block.word(b" -> ")?;
+        self.block.answer(answer)?;
+        self.block.word(b"\n")?;
         self.count(answer);
+        if self.block.len() >= BLOCK {
+            self.hand_on()?;
+        }
         Ok(())
     }
 
@@ -46,13 +56,18 @@ impl<W: Write + Drop> Sheet<W> {
         *count = count.saturating_add(1);
     }
 
-    pub fn finish(self) -> io::Result<()> {
-        let Sheet {
-            mut to,
-            granted,
-            refused,
-        } = self;
-        writeln!(to, "done: {granted} granted, {refused} refused")?;
-        to.flush()
+    fn hand_on(&mut self) -> io::Result<()> {
+        self.to.write_all(self.block.as_slice())?;
+        self.block.clear();
+        Ok(())
+    }
+
+    pub fn finish(mut self) -> io::Result<()> {
+        self.block.word(b"done: ")?;
+        self.block.number(self.granted)?;
+        self.block.word(b" granted, ")?;
+        self.block.number(self.refused)?;
+        self.block.word(b" refused\n")?;
+        self.hand_on()
     }
 }
