@@ -2,9 +2,14 @@
 use Rattle.std.specs.Prelude.{◌≡◌, ℕ, ◌+◌, ◌*◌, ◌/◌, ◌≤◌, ◌≢◌}
 use Rattle.std.proofs.Common.{⊎_elim, arith, mul_comm, mul_assoc, mul-le-mul_left, add-mul}
 use Rattle.std.proofs.Math.Nat.{div-zero, div-le_of_le-mul}
-use Rattle.std.proofs.lemmas.Nat.{div_below}
+use Rattle.std.proofs.lemmas.Nat.{div_below, mul-le}
 use Rattle.std.proofs.lemmas.Bool.{cases_eq}
 use Rattle.shares.specs.Nearest.{rounded}
+use Rattle.shares.specs.Weights.{weight_limit, amount_limit}
+
+-- within the limits a product fits
+pub product_small : (a x t : ℕ) → a ≤ amount_limit → x ≤ t → t ≤ weight_limit → a * x ≤ 4_000_000_000_000_000_000
+product_small a x t h k l = mul-le a x amount_limit weight_limit h (omega arith)
 
 -- a part of a size is no larger than the size
 pub quotient_le : (a x t : ℕ) → x ≤ t → a * x / t ≤ a

@@ -30,6 +30,9 @@ cases_total w s = ⊎_elim (λ z. inr (total_is w s ∙ ap pos z)) (λ n. inl (o
 pub whole_is : (w : List ℤ) → NoneBelowZero w → whole w ≡ sum_by unsigned_abs w
 whole_is w s = ap unsigned_abs (total_is w s)
 
+pub whole_within : (w : List ℤ) (k : ℕ) → NoneBelowZero w → total w ≤ℤ pos k → whole w ≤ k
+whole_within w k s h = omega (arith, ints, total_is w s)
+
 pub none_below_take : (w : List ℤ) (n : ℕ) → NoneBelowZero w → NoneBelowZero (take n w)
 none_below_take w n s i l =
     let k = length-take n w in
