@@ -1,5 +1,5 @@
 // What of the key is gathered in memory and not handed on yet.
-ghost use Rattle.std.specs.Prelude.{◌≡◌, ◌++◌, decimal, OnOk};
+ghost use Rattle.std.specs.Prelude.{◌≡◌, [], ◌++◌, decimal, length, IfOk, OnOk};
 ghost use Rattle.settle.specs.Answers.{answer_text};
 
 use crate::answer::Answer;
@@ -26,8 +26,10 @@ impl Write for Block {
 }
 
 impl Block {
-    pub fn with_capacity(heap: Global, bytes: usize) -> Result<Block, AllocError> {
-        let bytes = Vec::with_capacity(heap, bytes)?;
+    pub fn with_capacity(heap: Global, room: usize) -> Result<Block, AllocError>
+        ensures { IfOk result (λ block. block.bytes.items ≡ []) }
+    {
+        let bytes = Vec::with_capacity(heap, room)?;
         Ok(Block { bytes })
     }
 
@@ -52,7 +54,9 @@ impl Block {
         }
     }
 
-    pub fn len(&self) -> usize {
+    pub fn len(&self) -> usize
+        ensures { result ≡ length self.now.bytes.items }
+    {
         self.bytes.len()
     }
 
@@ -62,7 +66,9 @@ impl Block {
         self.bytes.as_slice()
     }
 
-    pub fn clear(&mut self) {
+    pub fn clear(&mut self)
+        ensures { self.new.bytes.items ≡ [] }
+    {
         self.bytes.clear();
     }
 }

@@ -20,8 +20,8 @@ use std::process::ExitCode;
 use std::{fmt, io};
 use text::Lines;
 
-// Why no key was printed. No `anyhow::Error` says it: that keeps 120 bytes of a message, and a long word with what was
-// expected in its place takes more, as a path may.
+// Why no key was printed, or not all of it. No `anyhow::Error` says it: that keeps 120 bytes of a message, and a long
+// word with what was expected in its place takes more, as a path may.
 #[derive(Drop)]
 enum Failure<'a> {
     Unread(&'a Source, io::Error),
